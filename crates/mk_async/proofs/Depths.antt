@@ -33,8 +33,9 @@ use Rattle.mk_async.specs.inner.Content.{AreContents, AreNamed, FindsValues, Tex
 use Rattle.mk_async.specs.Forms.{each_passes}
 use Rattle.mk_async.specs.inner.Known.{Members}
 use Rattle.mk_async.specs.inner.Related.{fits, texts}
-use Rattle.mk_async.proofs.Giving.{and_of, first_of, rest_of}
 use Rattle.mk_async.proofs.Relating.{fits_object, text_object}
+use Rattle.mk_base.proofs.Counts.{at_most_test, test_at_most}
+use Rattle.mk_base.proofs.Bools.{and_holds, first_holds, second_holds}
 
 -- ---- objects of proper trees
 
@@ -45,24 +46,18 @@ IsProperOfDepth d text = (t : IsTextOfDepth d text) × (is_proper t.tree ≡ tru
 abbrev AreProper : ℕ → Texts → Type 0
 AreProper d ms = Each (λ (m : List ℕ × List ℕ). IsUtf8 m.0 × IsProperOfDepth d m.1) ms
 
-le_true : (n d : ℕ) → n ≤ d → nat_le n d ≡ true
-le_true n d h = grind arith
-
-pub true_le : (n d : ℕ) → nat_le n d ≡ true → n ≤ d
-true_le n d h = grind arith
-
 trees : (d : ℕ) (ms : Texts) → AreProper d ms → (ts : Members) × (texts ts ≡ ms) × (each_passes (fits d) ts ≡ true) × (each_passes is_proper ts ≡ true)
 trees d [] a = ([], refl, refl, refl)
 trees d (m ∷ ms) a = let t = a.0.1.0 in let r = trees d ms a.1 in (
   (m.0, t.tree) ∷ r.0,
   ap (λ (s : List ℕ). let p : List ℕ × List ℕ = (m.0, s) in p ∷ texts r.0) t.is ∙ ap (λ (l : Texts). m ∷ l) r.1,
-  and_of (fits d t.tree) (each_passes (fits d) r.0) (and_of _ _ t.whole (and_of _ _ (le_true (nesting t.tree) d t.deep) t.in_range)) r.2,
-  and_of (is_proper t.tree) (each_passes is_proper r.0) a.0.1.1 r.3,
+  and_holds (fits d t.tree) (each_passes (fits d) r.0) (and_holds _ _ t.whole (and_holds _ _ (at_most_test (nesting t.tree) d t.deep) t.in_range)) r.2,
+  and_holds (is_proper t.tree) (each_passes is_proper r.0) a.0.1.1 r.3,
 )
 
 names_pass : (d : ℕ) (ms : Texts) → AreProper d ms → list_all is_utf8 (keys_of ms) ≡ true
 names_pass d [] a = refl
-names_pass d (m ∷ ms) a = and_of (is_utf8 m.0) (list_all is_utf8 (keys_of ms)) (is_utf8-from_IsUtf8 m.0 a.0.0) (names_pass d ms a.1)
+names_pass d (m ∷ ms) a = and_holds (is_utf8 m.0) (list_all is_utf8 (keys_of ms)) (is_utf8-from_IsUtf8 m.0 a.0.0) (names_pass d ms a.1)
 
 -- an object is the text of a tree that nests one deeper
 object_is : (d : ℕ) → nat_lt 0 d ≡ true → (ms : Texts) → names_rise (keys_of ms) ≡ true → AreProper (d - 1) ms → IsProperOfDepth d (object_text ms)
@@ -72,12 +67,12 @@ object_is d above ms rise a =
     let keys : keys_of r.0 ≡ keys_of ms = sym (keys_of_members text_of r.0) ∙ ap keys_of r.1 in (
       record {
         tree = tree.Object r.0;
-        whole = first_of _ _ f;
-        in_range = rest_of _ _ (rest_of _ _ f);
-        deep = true_le (nesting (tree.Object r.0)) d (first_of _ _ (rest_of _ _ f));
+        whole = first_holds _ _ f;
+        in_range = second_holds _ _ (second_holds _ _ f);
+        deep = test_at_most (nesting (tree.Object r.0)) d (first_holds _ _ (second_holds _ _ f));
         is = text_object r.0 ∙ ap object_text r.1;
       },
-      proper-Object r.0 ∙ and_of _ _ (and_of _ _ (ap names_rise keys ∙ rise) (ap (list_all is_utf8) keys ∙ names_pass (d - 1) ms a)) r.3,
+      proper-Object r.0 ∙ and_holds _ _ (and_holds _ _ (ap names_rise keys ∙ rise) (ap (list_all is_utf8) keys ∙ names_pass (d - 1) ms a)) r.3,
     )
 
 -- ---- the values that a lookup finds

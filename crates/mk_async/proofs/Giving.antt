@@ -18,29 +18,13 @@ use Rattle.mk_async.specs.inner.Given.{is_source, set_value, values_from, values
 use Rattle.mk_async.specs.inner.Known.{Members}
 use Rattle.mk_async.proofs.Reading.{set_there}
 use Rattle.mk_async.proofs.Testing.{made, parts, read}
+use Rattle.mk_base.proofs.Bools.{and_holds, first_holds, second_holds}
 
 -- ---- each value is one that may be given, and in range
 
-pub and_of : (a b : Bool) → a ≡ true → b ≡ true → (a && b) ≡ true
-and_of a b p q = rw (p, q) refl
-
-pub first_of : (a b : Bool) → (a && b) ≡ true → a ≡ true
-first_of true b e = refl
-first_of false b e = e
-
-pub rest_of : (a b : Bool) → (a && b) ≡ true → b ≡ true
-rest_of true b e = e
-rest_of false b e = absurd (true≢false (sym e))
-
--- what each of a list passes, its items pass
-pub all_at : {A : Type 0} (p : A → Bool) (xs : List A) (i : ℕ) (x : A) → list_all p xs ≡ true → i < length xs → x ≡ get_or xs i x → p x ≡ true
-all_at p [] i x all below is = absurd (omega arith)
-all_at p (y ∷ ys) zero x all below is = ap p is ∙ first_of (p y) (list_all p ys) all
-all_at p (y ∷ ys) (suc i) x all below is = all_at p ys i x (rest_of (p y) (list_all p ys) all) (omega arith) is
-
 all_both : {A : Type 0} (p r q : A → Bool) → ((x : A) → p x ≡ true → r x ≡ true → q x ≡ true) → (xs : List A) → list_all p xs ≡ true → list_all r xs ≡ true → list_all q xs ≡ true
 all_both p r q f [] a b = refl
-all_both p r q f (x ∷ xs) a b = and_of (q x) (list_all q xs) (f x (first_of _ _ a) (first_of _ _ b)) (all_both p r q f xs (rest_of _ _ a) (rest_of _ _ b))
+all_both p r q f (x ∷ xs) a b = and_holds (q x) (list_all q xs) (f x (first_holds _ _ a) (first_holds _ _ b)) (all_both p r q f xs (second_holds _ _ a) (second_holds _ _ b))
 
 -- the members of a layer that is an object
 abbrev layer_members : Json-F Json → Option Members
@@ -69,7 +53,7 @@ object_both p q f t a b = by (members_in t) refl a
 
 pub sources_pass : (ms : Members) → IsSome (set_of ms) → each_passes is_in_range ms ≡ true → each_passes is_source ms ≡ true
 sources_pass ms form range = all_both (λ (m : List ℕ × Json). is_destinations m.1) (λ (m : List ℕ × Json). is_in_range m.1) (λ (m : List ℕ × Json). is_source m.1)
-    (λ m. object_both is_values (is_object_of is_value) (object_both is_datum is_value (λ v. and_of (is_datum v) (is_in_range v))) m.1) ms (sym (set_there ms) ∙ form) range
+    (λ m. object_both is_values (is_object_of is_value) (object_both is_datum is_value (λ v. and_holds (is_datum v) (is_in_range v))) m.1) ms (sym (set_there ms) ∙ form) range
 
 -- ---- what is gathered
 

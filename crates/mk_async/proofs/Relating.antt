@@ -21,8 +21,8 @@ use Rattle.mk_async.specs.Forms.{each_passes, is_value}
 use Rattle.mk_async.specs.inner.Forms.{texts_of}
 use Rattle.mk_async.specs.inner.Known.{Members}
 use Rattle.mk_async.specs.inner.Related.{described, each_read, each_text, fits, gathered_by, put_read, put_text, related_tree, texts, type_tree}
-use Rattle.mk_async.proofs.Giving.{and_of, first_of, rest_of}
 use Rattle.mk_async.proofs.Testing.{made}
+use Rattle.mk_base.proofs.Bools.{and_holds, first_holds, second_holds}
 
 -- ---- texts
 
@@ -81,23 +81,23 @@ module _ (P : Plan) where
 
 passes_more : (p q : tree.Json → Bool) → ((t : tree.Json) → p t ≡ true → q t ≡ true) → (ms : Members) → each_passes p ms ≡ true → each_passes q ms ≡ true
 passes_more p q f [] h = refl
-passes_more p q f (m ∷ ms) h = and_of (q m.1) (each_passes q ms) (f m.1 (first_of _ _ h)) (passes_more p q f ms (rest_of _ _ h))
+passes_more p q f (m ∷ ms) h = and_holds (q m.1) (each_passes q ms) (f m.1 (first_holds _ _ h)) (passes_more p q f ms (second_holds _ _ h))
 
 -- an object fits where its members fit within one less
 pub fits_object : (d : ℕ) → nat_lt 0 d ≡ true → (ms : Members) → each_passes (fits (d - 1)) ms ≡ true → fits d (tree.Object ms) ≡ true
-fits_object d above ms h = and_of _ _ (whole_members ms ∙ passes_more (fits (d - 1)) is_whole (λ t. first_of _ _) ms h)
-    (and_of _ _ (members_within ms d above ∙ passes_more (fits (d - 1)) (λ t. nat_le (nesting t) (d - 1)) (λ t g. first_of _ _ (rest_of _ _ g)) ms h)
-    (range-Object ms ∙ passes_more (fits (d - 1)) is_in_range (λ t g. rest_of _ _ (rest_of _ _ g)) ms h))
+fits_object d above ms h = and_holds _ _ (whole_members ms ∙ passes_more (fits (d - 1)) is_whole (λ t. first_holds _ _) ms h)
+    (and_holds _ _ (members_within ms d above ∙ passes_more (fits (d - 1)) (λ t. nat_le (nesting t) (d - 1)) (λ t g. first_holds _ _ (second_holds _ _ g)) ms h)
+    (range-Object ms ∙ passes_more (fits (d - 1)) is_in_range (λ t g. second_holds _ _ (second_holds _ _ g)) ms h))
 
 module _ (p : tree.Json → Bool) where
   put_passes : (k : List ℕ) (v : tree.Json) → p v ≡ true → (done : Members) → each_passes p done ≡ true → each_passes p (insert_entry text_order done k v) ≡ true
-  put_passes k v pv [] h = and_of (p v) true pv refl
-  put_passes k v pv (m ∷ done) h = by (text_order k m.0) (put_passes k v pv done (rest_of _ _ h))
+  put_passes k v pv [] h = and_holds (p v) true pv refl
+  put_passes k v pv (m ∷ done) h = by (text_order k m.0) (put_passes k v pv done (second_holds _ _ h))
     where
       by : (o : Ordering) → each_passes p (insert_entry text_order done k v) ≡ true → each_passes p (match_ordering o ((k, v) ∷ m ∷ done) ((m.0, v) ∷ done) (m ∷ insert_entry text_order done k v)) ≡ true
-      by Less rest = and_of (p v) (each_passes p (m ∷ done)) pv h
-      by Equal rest = and_of (p v) (each_passes p done) pv (rest_of (p m.1) (each_passes p done) h)
-      by Greater rest = and_of (p m.1) (each_passes p (insert_entry text_order done k v)) (first_of (p m.1) (each_passes p done) h) rest
+      by Less rest = and_holds (p v) (each_passes p (m ∷ done)) pv h
+      by Equal rest = and_holds (p v) (each_passes p done) pv (second_holds (p m.1) (each_passes p done) h)
+      by Greater rest = and_holds (p m.1) (each_passes p (insert_entry text_order done k v)) (first_holds (p m.1) (each_passes p done) h) rest
 
   gathered_passes : {A : Type 0} (key : A → List ℕ) (value : A → tree.Json) → ((x : A) → p (value x) ≡ true) → (xs : List A) (done : Members) → each_passes p done ≡ true → each_passes p (gathered_by key value done xs) ≡ true
   gathered_passes key value each [] done h = h
@@ -108,7 +108,7 @@ unfolding trees_compute
 text_fits s = refl
 
 fits_value : (d : ℕ) (t : tree.Json) → nat_le d 100 ≡ true → fits d t ≡ true → is_value t ≡ true
-fits_value d t small h = and_of _ _ (and_of _ _ (first_of _ _ h) (within (nesting t) (first_of _ _ (rest_of _ _ h)))) (rest_of _ _ (rest_of _ _ h))
+fits_value d t small h = and_holds _ _ (and_holds _ _ (first_holds _ _ h) (within (nesting t) (first_holds _ _ (second_holds _ _ h)))) (second_holds _ _ (second_holds _ _ h))
   where
     within : (n : ℕ) → nat_le n d ≡ true → nat_le n 100 ≡ true
     within n e = grind arith
@@ -119,7 +119,7 @@ null_value = refl
 
 module _ (P : Plan) where
   type_fits : (e : ℕ) → fits 1 (type_tree P e) ≡ true
-  type_fits e = fits_object 1 refl ((codes "type", tree.Text (model_name P e)) ∷ []) (and_of (fits 0 (tree.Text (model_name P e))) true (text_fits (model_name P e)) refl)
+  type_fits e = fits_object 1 refl ((codes "type", tree.Text (model_name P e)) ∷ []) (and_holds (fits 0 (tree.Text (model_name P e))) true (text_fits (model_name P e)) refl)
 
   related_fits : (id : List ℕ) → fits 2 (related_tree P id) ≡ true
   related_fits id = fits_object 2 refl (described P (related_to P id)) (gathered_passes (fits 1) (full_id P) (type_tree P) type_fits (related_to P id) [] refl)

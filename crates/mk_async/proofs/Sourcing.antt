@@ -17,19 +17,15 @@ use Rattle.mk_async.specs.Asked.{IsGivenBy}
 use Rattle.mk_async.specs.Forms.{each_passes, is_object_of, is_such, is_value}
 use Rattle.mk_async.specs.inner.Given.{is_source, set_value, values_from, values_in, values_to}
 use Rattle.mk_async.specs.inner.Known.{Members, knows_source, knows_sources}
-use Rattle.mk_async.proofs.Depths.{true_le}
 use Rattle.mk_async.proofs.Entities.{entity_named}
-use Rattle.mk_async.proofs.Giving.{first_of, rest_of}
+use Rattle.mk_base.proofs.Counts.{test_at_most}
+use Rattle.mk_base.proofs.Bools.{first_holds, second_holds}
+use Rattle.mk_order.proofs.LateActs.{all_pass}
 
 all_of : {X : Type 0} (Q : X → Type 0) (xs : List X) → ((x : X) → IsIn x xs → Q x) → All Q xs
 all_of Q [] f k d h = absurd (omega arith)
 all_of Q (x ∷ xs) f zero d h = f x (inl refl)
 all_of Q (x ∷ xs) f (suc k) d h = all_of Q xs (λ y m. f y (inr m)) k d (omega arith)
-
-passes_in : {X : Type 0} (p : X → Bool) (xs : List X) (x : X) → list_all p xs ≡ true → IsIn x xs → p x ≡ true
-passes_in p [] x h m = absurd m
-passes_in p (y ∷ ys) x h (inl e) = ap p e ∙ first_of (p y) (list_all p ys) h
-passes_in p (y ∷ ys) x h (inr m) = passes_in p ys x (rest_of (p y) (list_all p ys) h) m
 
 object_members : (p : Json → Bool) (t : Json) → is_object_of p t ≡ true → each_passes p (members_of t) ≡ true
 object_members p t h = by (members_in t) refl h
@@ -39,11 +35,11 @@ object_members p t h = by (members_in t) refl h
     by (Some ms) is h = ap (λ (o : Option Members). each_passes p (unwrap_or o [])) is ∙ h
 
 value_text : (t : Json) → is_value t ≡ true → IsValueText (text_of t)
-value_text t h = let d = first_of _ _ h in record {
+value_text t h = let d = first_holds _ _ h in record {
   tree = t;
-  whole = first_of _ _ d;
-  in_range = rest_of _ _ h;
-  deep = true_le (nesting t) 100 (rest_of _ _ d);
+  whole = first_holds _ _ d;
+  in_range = second_holds _ _ h;
+  deep = test_at_most (nesting t) 100 (second_holds _ _ d);
   is = refl;
 }
 
@@ -53,10 +49,10 @@ module _ (P : Plan) (s : ℕ) (ms : Members) (form : each_passes is_source ms �
       let v = in_flat_map (λ (m : List ℕ × Json). values_from P m.0 (members_of m.1)) w ms mem in
       let d = in_flat_map (λ (m : List ℕ × Json). values_to P v.0.0 m.0 (members_of m.1)) w (members_of v.0.1) v.2 in
       let a = in_map (λ (m : List ℕ × Json). set_value P v.0.0 d.0.0 m.0 m.1) w (members_of d.0.1) d.2 in
-      let source = passes_in (λ (m : List ℕ × Json). is_source m.1) ms v.0 form v.1 in
-      let values = passes_in (λ (m : List ℕ × Json). is_object_of is_value m.1) (members_of v.0.1) d.0 (object_members (is_object_of is_value) v.0.1 source) d.1 in
-      let value = passes_in (λ (m : List ℕ × Json). is_value m.1) (members_of d.0.1) a.0 (object_members is_value d.0.1 values) a.1 in
-      let e = entity_named P v.0.0 (λ e. owner P e == s) (first_of _ _ (passes_in (λ (m : List ℕ × Json). knows_source P s m.0 m.1) ms v.0 known v.1)) in
+      let source = all_pass (λ (m : List ℕ × Json). is_source m.1) ms v.0 form v.1 in
+      let values = all_pass (λ (m : List ℕ × Json). is_object_of is_value m.1) (members_of v.0.1) d.0 (object_members (is_object_of is_value) v.0.1 source) d.1 in
+      let value = all_pass (λ (m : List ℕ × Json). is_value m.1) (members_of d.0.1) a.0 (object_members is_value d.0.1 values) a.1 in
+      let e = entity_named P v.0.0 (λ e. owner P e == s) (first_holds _ _ (all_pass (λ (m : List ℕ × Json). knows_source P s m.0 m.1) ms v.0 known v.1)) in
       record {
         entity = e.0;
         owned = eqb-true (owner P e.0) s e.2;

@@ -21,6 +21,7 @@ use Rattle.mk_async.specs.inner.Known.{Members}
 use Rattle.mk_async.proofs.Giving.{named_map}
 use Rattle.mk_async.proofs.Relating.{put_in}
 use Rattle.mk_async.proofs.Testing.{made}
+use Rattle.mk_base.proofs.Items.{each_behind}
 
 -- ---- commas
 
@@ -43,17 +44,13 @@ pub object_written : (ms more : Texts) (m : List ℕ × List ℕ) (out a b c d :
 object_written ms more m out a b c d whole ea eb ec ed = ed ∙ ap (λ l. l ++ codes "}") (ec ∙ ap (λ l. l ++ flat_map (λ (m : List ℕ × List ℕ). codes "," ++ shown m) more) (eb ∙ ap (λ l. l ++ shown m) ea))
     ∙ object_begun m more out ∙ ap (λ (l : Texts). out ++ object_text l) (sym whole)
 
-each_push : {X : Type 0} (Q : X → Type 0) (xs : List X) (x : X) → Each Q xs → Q x → Each Q (xs ++ x ∷ [])
-each_push Q [] x all h = (h, tt)
-each_push Q (y ∷ ys) x all h = (all.0, each_push Q ys x all.1 h)
-
 -- one item more
 module _ {X : Type 0} (xs : List X) (i : ℕ) (x : X) (below : i < length xs) (is : x ≡ get_or xs i x) where
   taken : take (i + 1) xs ≡ take i xs ++ x ∷ []
   taken = take_more xs i x below ∙ ap (λ (y : X). take i xs ++ y ∷ []) (sym is)
 
   pub each_more : (Q : X → Type 0) → Each Q (take i xs) → Q x → Each Q (take (i + 1) xs)
-  each_more Q all h = subst (Each Q) (sym taken) (each_push Q (take i xs) x all h)
+  each_more Q all h = subst (Each Q) (sym taken) (each_behind Q (take i xs) x all h)
 
   pub commas_more : (f : X → List ℕ) (out a b c : List ℕ) → a ≡ out ++ flat_map (λ y. codes "," ++ f y) (take i xs) → b ≡ a ++ codes "," → c ≡ b ++ f x → c ≡ out ++ flat_map (λ y. codes "," ++ f y) (take (i + 1) xs)
   commas_more f out a b c ea eb ec =

@@ -12,24 +12,14 @@ use Rattle.mk_base.specs.Lists.{same_text, value_under}
 use Rattle.mk_base.specs.inner.Lists.{value_if_named}
 use Rattle.mk_base.proofs.Lists.{none_some, some_same}
 use Rattle.mk_base.proofs.Searching.{value_by}
+use Rattle.mk_base.proofs.Bools.{both_hold}
+use Rattle.mk_base.proofs.Items.{same_text_self}
 
-both_true : (a b : Bool) → (a && b) ≡ true → (a ≡ true) × (b ≡ true)
-both_true true b h = (refl, h)
-both_true false b h = absurd (true≢false (sym h))
-
-true_both : (a b : Bool) → a ≡ true → b ≡ true → (a && b) ≡ true
-true_both true b p q = q
-true_both false b p q = p
-
-text_is : (x y : List ℕ) → same_text x y ≡ true → x ≡ y
+pub text_is : (x y : List ℕ) → same_text x y ≡ true → x ≡ y
 text_is [] [] h = refl
 text_is [] (b ∷ y) h = absurd (true≢false (sym h))
 text_is (a ∷ x) [] h = absurd (true≢false (sym h))
-text_is (a ∷ x) (b ∷ y) h = let t = both_true (nat_eq a b) (same_text x y) h in λ i. eqb-true a b t.0 i ∷ text_is x y t.1 i
-
-is_text : (x : List ℕ) → same_text x x ≡ true
-is_text [] = refl
-is_text (a ∷ x) = true_both (nat_eq a a) (same_text x x) (eq-eqb a a refl) (is_text x)
+text_is (a ∷ x) (b ∷ y) h = let t = both_hold (nat_eq a b) (same_text x y) h in λ i. eqb-true a b t.0 i ∷ text_is x y t.1 i
 
 module _ {V : Type 0} (k : List ℕ) (v : V) where
   has_name : (e : List ℕ × V) → value_if_named k (Some e) ≡ Some v → (k ≡ e.0) × (e.1 ≡ v)
@@ -49,7 +39,7 @@ module _ {V : Type 0} (k : List ℕ) (v : V) where
   guessed [] i sorted is = absurd (none_some is)
   guessed (e ∷ es) zero sorted is =
       let t = has_name e is in
-      ap Some (sym t.1) ∙ sym (ap (λ b. value_by k b e es) (ap (λ n. same_text n k) (sym t.0) ∙ is_text k))
+      ap Some (sym t.1) ∙ sym (ap (λ b. value_by k b e es) (ap (λ n. same_text n k) (sym t.0) ∙ same_text_self k))
   guessed (e ∷ es) (suc i) sorted is =
       guessed es i sorted.1 is
       ∙ sym (ap (λ b. value_by k b e es) (sym (is_eq-slice_cmp e.0 k) ∙ ap is_eq (holds_of_name (λ x. slice_cmp nat_cmp e.0 x ≡ Less) es i sorted.0 is)))

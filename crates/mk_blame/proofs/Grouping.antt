@@ -9,6 +9,7 @@ use Rattle.mk_blame.specs.Talks.{is_with, said, talk}
 use Rattle.mk_plan.specs.Acts.{Said}
 use Rattle.mk_plan.specs.Journals.{sim_of}
 use Rattle.mk_blame.specs.inner.Parted.{AreTalks}
+use Rattle.mk_base.proofs.Items.{length_map}
 
 with_is : (i : ℕ) (e : Entry) → is_with i e ≡ (sim_of e == i)
 with_is i (Sent s item) = refl
@@ -53,10 +54,6 @@ put_in count J e talks t u there grown are = record {
         ∙ sym (filter_append (is_with i) J (e ∷ []) ∙ ap (λ l. filter (is_with i) J ++ l) (none_with i e apart) ∙ append_nil (filter (is_with i) J))
   ];
 }
-
-pub length_map : {X Y : Type 0} (f : X → Y) (xs : List X) → length (map f xs) ≡ length xs
-length_map f [] = refl
-length_map f (x ∷ xs) = ap suc (length_map f xs)
 
 -- ---- lists of anything that is seen as entries
 

@@ -12,6 +12,7 @@ use Rattle.mk_blame.specs.Talks.{message_in, messages, last_step, step_after, Pa
 use Rattle.mk_blame.specs.declared.verdict.Blamed.{Blamed}
 use Rattle.mk_blame.specs.Verdicts.{IsBlamedBy}
 use Rattle.mk_blame.specs.inner.Parted.{PartAt, OneEnds, MessagesAlike, BeginsWithStep, is_message}
+use Rattle.mk_base.proofs.Items.{fold_push}
 
 pub heard_same : (m n : Message) → Heard m ≡ Heard n → m ≡ n
 heard_same m n e = cc
@@ -158,14 +159,6 @@ pub all_the_same : (xs ys : List Said) (k : ℕ) → length xs ≤ k → length 
 all_the_same xs ys k end long same = sym (take_all k xs end) ∙ same ∙ take_all k ys (omega (arith, end, long))
 
 -- ---- one entry more
-
-pub length_map : {X Y : Type 0} (f : X → Y) (xs : List X) → length (map f xs) ≡ length xs
-length_map f [] = refl
-length_map f (x ∷ xs) = ap suc (length_map f xs)
-
-fold_push : {A B : Type 0} (f : B → A → B) (b : B) (xs : List A) (x : A) → fold f b (xs ++ x ∷ []) ≡ f (fold f b xs) x
-fold_push f b [] x = refl
-fold_push f b (y ∷ xs) x = fold_push f (f b y) xs x
 
 one_message : (x : Said) → length (messages (x ∷ [])) ≡ (if is_message x then 1 else 0)
 one_message (Told item) = refl

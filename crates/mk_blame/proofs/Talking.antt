@@ -26,8 +26,8 @@ use Rattle.mk_plan.specs.Advance.{IsAdvance}
 use Rattle.mk_plan.specs.Report.{is_step}
 use Rattle.mk_plan.specs.Orderly.{IsNext, IsAllowed, IsOrderlyFrom, IsOrderlySoFar, IsOrderly}
 use Rattle.mk_plan.specs.Agreement.{IsFinished}
-use Rattle.mk_order.proofs.Seen.{IsSound, same_self, not_same, at_self, open_after_is, follows, seen, reached}
-use Rattle.mk_order.proofs.Told.{said_is, said_seen}
+use Rattle.mk_order.proofs.Seen.{IsSound, at_self, open_after_is, follows, seen, reached}
+use Rattle.mk_order.proofs.Told.{said_is, said_seen, bare_itself}
 use Rattle.mk_order_any.specs.Parts as theory
 use Rattle.mk_order_any.proofs.Talks.{agrees}
 use Rattle.mk_order.proofs.Theory.{parts, laws}
@@ -35,9 +35,8 @@ use Rattle.mk_order.proofs.Agreeing.{goes_on}
 use Rattle.mk_order.proofs.SequentialLaws.{act_is}
 use Rattle.mk_blame.specs.Talks.{said, is_with, talk, message_in, messages, step_after}
 use Rattle.mk_blame.specs.inner.Parted.{BeginsWithStep}
-
-same_or_not : (i s : ℕ) → (i ≡ s) ⊎ (i ≡ s → ⊥)
-same_or_not i s = elim (i == s) as (λ b. (i == s) ≡ b → (i ≡ s) ⊎ (i ≡ s → ⊥)) [ true ↦ λ e. inl (eqb-true i s e) | false ↦ λ e. inr (λ q. true≢false (sym (eq-eqb i s q) ∙ e)) ] refl
+use Rattle.mk_base.proofs.Counts.{same_or_not, not_same, same_self}
+use Rattle.mk_base.proofs.Items.{nothing_behind}
 
 -- ---- one entry
 
@@ -55,12 +54,6 @@ heard_away s m i n = ap (λ (b : Bool). map said (cond b (Got s m ∷ []) [])) (
 
 pub talk_append : (J K : List Entry) (i : ℕ) → talk (J ++ K) i ≡ talk J i ++ talk K i
 talk_append J K i = ap (map said) (filter_append (is_with i) J K) ∙ map_append said (filter (is_with i) J) (filter (is_with i) K)
-
-bare_itself : (item : Item) → is_step item ≡ false → bare item ≡ item
-bare_itself (Step x ins advance) h = absurd (true≢false h)
-bare_itself (GetData wants) h = refl
-bare_itself (Answer id content) h = refl
-bare_itself (Refuse id reason) h = refl
 
 module _ (P : Plan) (V : View) where
   open_away : (s : ℕ) (o : Option OpenTurn) (i : ℕ) → (i ≡ s → ⊥) → with_open V s o i ≡ V.open_at i
@@ -178,10 +171,6 @@ messages_of_talk (Got s m ∷ J) i = elim (s.0 == i) as (λ b. messages (map sai
   | false ↦ messages_of_talk J i
 ]
 
-nothing_more : {X : Type 0} (xs ys : List X) → xs ≡ xs ++ ys → ys ≡ []
-nothing_more xs [] e = refl
-nothing_more xs (y ∷ ys) e = let len = ap length e in let sum = length-append xs (y ∷ ys) in absurd (omega (arith, len, sum))
-
 cancelled : (w xs ys : List Message) → w ++ xs ≡ w ++ ys → xs ≡ ys
 cancelled [] xs ys e = e
 cancelled (z ∷ w) xs ys e = cancelled w xs ys cc
@@ -258,8 +247,8 @@ module _ (P : Plan) (valid : IsValidPlan P) (J : List Entry) (orderly : IsOrderl
       let t = in_run.0 in
       let S = said_so_far (view P J) i in
       let told : items S ≡ map bare (sent J i) = said_is IsReady IsAdvance P (λ V s x r. r) J orderly.0 i in
-      let none_d : items d ≡ [] = nothing_more (items S) (items d) (told ∙ sym (items_of_talk J i) ∙ ap items begins.1 ∙ filter_map_append told_item S d) in
-      let none_t : items t ≡ [] = nothing_more (items S) (items t) (told ∙ (finished i low).sent ∙ ap items in_run.1 ∙ filter_map_append told_item S t) in
+      let none_d : items d ≡ [] = nothing_behind (items S) (items d) (told ∙ sym (items_of_talk J i) ∙ ap items begins.1 ∙ filter_map_append told_item S d) in
+      let none_t : items t ≡ [] = nothing_behind (items S) (items t) (told ∙ (finished i low).sent ∙ ap items in_run.1 ∙ filter_map_append told_item S t) in
       let same : messages d ≡ messages t = cancelled (messages S) (messages d) (messages t)
       (sym (filter_map_append message_in S d) ∙ sym (ap messages begins.1) ∙ messages_of_talk J i ∙ sym (finished i low).used ∙ sym (messages_said P valid (got J) i) ∙ ap messages in_run.1 ∙ filter_map_append message_in S t) in
       begins.1 ∙ ap (λ (l : List Said). S ++ l) (only_messages d none_d ∙ ap (map Heard) same ∙ sym (only_messages t none_t)) ∙ sym in_run.1

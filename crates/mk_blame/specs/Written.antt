@@ -4,10 +4,11 @@ use Rattle.std.specs.List.{list_all}
 use Rattle.std.specs.Fmt.{decimal, signed_decimal}
 use Rattle.mk_plan.specs.declared.Plan.{Plan}
 use Rattle.mk_plan.specs.Plans.{sim_id}
-use Rattle.mk_message.specs.Written.{message_text, is_in_range}
+use Rattle.mk_message.specs.Written.{message_text}
 use Rattle.mk_blame.specs.declared.verdict.Blamed.{Blamed}
 use Rattle.mk_blame.specs.declared.verdict.Verdict.{Verdict}
 use Rattle.mk_blame.specs.declared.verdict.Verdict.TheVariants as verdicts
+use Rattle.mk_plan.specs.Messages.{is_message_in_range}
 
 -- three lines for a simulator to blame: its id, which message of it and behind which step, and both
 -- messages
@@ -25,7 +26,7 @@ verdict_text P (verdicts.Blamed bs) = flat_map (lines_of P) bs ++ codes "blamed 
 
 -- the numbers of both messages are those that may be written
 abbrev pub may_be_written : Blamed → Bool
-may_be_written b = is_in_range b.first && is_in_range b.second
+may_be_written b = is_message_in_range b.first && is_message_in_range b.second
 
 -- and so for all that are to blame
 abbrev pub is_writable : Verdict → Bool

@@ -1,8 +1,9 @@
 //! The text of a verdict.
 ghost use Rattle.std.specs.Prelude.{◌≡◌, ◌++◌, true, IfOk, OnOk};
 ghost use Rattle.std.specs.Fmt.{signed_decimal};
-ghost use Rattle.mk_message.specs.Written.{message_text, is_in_range};
+ghost use Rattle.mk_message.specs.Written.{message_text};
 ghost use Rattle.mk_blame.specs.Written.{is_writable, lines_of, may_be_written, verdict_text};
+ghost use Rattle.mk_plan.specs.Messages.{is_message_in_range};
 
 use crate::verdict::{Blamed, Verdict};
 use mk_base::{Mem, put, put_signed, put_unsigned};
@@ -52,7 +53,7 @@ fn put_blamed(alloc: Global, out: &mut Vec<u8>, plan: &Plan, blamed: &Blamed) ->
 }
 
 fn put_message(alloc: Global, out: &mut Vec<u8>, message: &Message) -> Result<(), Mem>
-    requires { is_in_range message.now ≡ true }
+    requires { is_message_in_range message.now ≡ true }
     ensures { OnOk result (out.new.items ≡ out.old.items ++ message_text message.now) }
 {
     out.extend_from_slice(write(alloc, message)?.as_slice())?;

@@ -13,6 +13,8 @@ use Rattle.mk_plan.specs.declared.AsyncPair.{AsyncPair}
 use Rattle.mk_plan.specs.Plans.{owner}
 use Rattle.mk_buffers.specs.Marking.{AreAsking}
 use Rattle.mk_buffers_log.proofs.Places.{apart_or_same, get_any, get_some}
+use Rattle.mk_base.proofs.Counts.{equal_same}
+use Rattle.mk_base.proofs.Bools.{or_false, or_true}
 
 -- those that the first connections go to
 pub record HaveAsked (P : Plan) (n : ℕ) (conns : List Conn) (asks : List Bool) : Type 0 where
@@ -40,24 +42,13 @@ module _ {X : Type 0} (f : X → Bool) where
           assoc true b c = refl
           assoc false b c = refl
 
-or_true : (b : Bool) → b || true ≡ true
-or_true true = refl
-or_true false = refl
-
-or_false : (b : Bool) → b || false ≡ b
-or_false true = refl
-or_false false = refl
-
-same_is : (m n : ℕ) → m ≡ n → (m == n) ≡ true
-same_is m n h = grind (arith, nat_tests)
-
 apart_is : (m n : ℕ) → m ≢ n → (m == n) ≡ false
 apart_is m n h = grind (arith, nat_tests)
 
 -- one more that asks
 flag : (asks new : List Bool) (o s : ℕ) (b : Bool) → o < length asks → new ≡ slice_set asks o true → slice_get asks s ≡ Some b → slice_get new s ≡ Some (b || (o == s))
 flag asks new o s b low is at = elim (apart_or_same s o) [
-  | inl same ↦ let old = below_get asks o low in ap (λ (l : List Bool). slice_get l s) is ∙ ap (slice_get (slice_set asks o true)) same ∙ set_here asks o true old.0 old.1 ∙ ap Some (sym (ap (λ (c : Bool). b || c) (same_is o s (sym same)) ∙ or_true b))
+  | inl same ↦ let old = below_get asks o low in ap (λ (l : List Bool). slice_get l s) is ∙ ap (slice_get (slice_set asks o true)) same ∙ set_here asks o true old.0 old.1 ∙ ap Some (sym (ap (λ (c : Bool). b || c) (equal_same o s (sym same)) ∙ or_true b))
   | inr apart ↦ ap (λ (l : List Bool). slice_get l s) is ∙ set_else asks o s true apart ∙ at ∙ ap Some (sym (ap (λ (c : Bool). b || c) (apart_is o s (λ q. apart (sym q))) ∙ or_false b))
 ]
 

@@ -20,11 +20,11 @@ use Rattle.mk_buffers.specs.Bounds.{same_source, sources, comes_late, is_late, l
 use Rattle.mk_buffers.specs.Held.{is_key, kept_in}
 use Rattle.mk_buffers_log.specs.Logs.{is_settled}
 use Rattle.mk_buffers.specs.Standing.{StandFor}
-use Rattle.mk_buffers_log.proofs.Ascending.{and_is}
 use Rattle.mk_buffers.proofs.Collecting.{key_of}
 use Rattle.mk_buffers_log.proofs.Fitting.{AreApart, fitting, sum_ones}
 use Rattle.mk_buffers_log.proofs.Keeping.{implied}
-use Rattle.mk_buffers.proofs.Standing.{eq_from, same_from, both_from}
+use Rattle.mk_base.proofs.Counts.{before_end, equal_same, same_equal}
+use Rattle.mk_base.proofs.Bools.{or_second, and_holds, both_hold, neither_holds}
 
 pub sum_le : {X : Type 0} (f g : X → ℕ) (xs : List X) → ((x : X) → IsIn x xs → f x ≤ g x) → sum_by f xs ≤ sum_by g xs
 sum_le f g [] h = omega arith
@@ -43,9 +43,9 @@ source_in (x ∷ xs) c m = go (λ y r. source_in xs y r) (list_any (same_source 
         → (b : Bool) → list_any (same_source x) xs ≡ b → IsIn c (x ∷ xs) → (d : Conn) × IsIn d (if b then sources xs else x ∷ sources xs) × (c.from ≡ d.from) × (c.from_attr ≡ d.from_attr)
     go more true e (inl q) =
         let y = some_passes (same_source x) xs e in
-        let both = both_from (y.0.from == x.from) (same_text y.0.from_attr x.from_attr) y.2 in
+        let both = both_hold (y.0.from == x.from) (same_text y.0.from_attr x.from_attr) y.2 in
         let d = more y.0 y.1 in
-        (d.0, d.1, ap (λ (k : Conn). k.from) q ∙ sym (eq_from y.0.from x.from both.0) ∙ d.2, ap (λ (k : Conn). k.from_attr) q ∙ sym ((bytes_eq-Decides y.0.from_attr x.from_attr).0 both.1) ∙ d.3)
+        (d.0, d.1, ap (λ (k : Conn). k.from) q ∙ sym (same_equal y.0.from x.from both.0) ∙ d.2, ap (λ (k : Conn). k.from_attr) q ∙ sym ((bytes_eq-Decides y.0.from_attr x.from_attr).0 both.1) ∙ d.3)
     go more true e (inr r) = more c r
     go more false e (inl q) = (x, inl refl, ap (λ (k : Conn). k.from) q, ap (λ (k : Conn). k.from_attr) q)
     go more false e (inr r) = let d = more c r in (d.0, inr d.1, d.2, d.3)
@@ -59,17 +59,6 @@ some_fails test (v ∷ vs) h = go (λ r. some_fails test vs r) (test v) refl
     go more true e = let r = more (sym (ap (λ (b : Bool). b && list_all test vs) e) ∙ h) in (r.0, inr r.1, r.2)
     go more false e = (v, inl refl, e)
 
-or_false : (a b : Bool) → a || b ≡ false → (a ≡ false) × (b ≡ false)
-or_false true b h = absurd (true≢false h)
-or_false false b h = (refl, h)
-
-or_right : (a b : Bool) → b ≡ true → a || b ≡ true
-or_right true b h = refl
-or_right false b h = h
-
-before_end : (x : Tier) (until : ℤ) → int_le until x.time ≡ false → int_lt x.time until ≡ true
-before_end x until h = grind (arith, ints)
-
 -- what isn't settled is late
 late_if : (P : Plan) (mark : Tier) (e : ℕ) (attr : List ℕ) (vias : List Via) (x : Tier) → ((v : Via) → IsIn v vias → (c : Conn) × IsIn c P.conns × (e ≡ c.from) × (attr ≡ c.from_attr) × (v ≡ c.via))
     → is_settled vias P.until mark x ≡ false → is_late P mark e attr x ≡ true
@@ -79,13 +68,13 @@ late_if P mark e attr vias x delays h = go (up_to x mark) refl
     go false q = ap (λ (b : Bool). not b || list_any (λ c. (c.from == e) && same_text c.from_attr attr && comes_late P mark x c) P.conns) q
     go true q =
         let w = some_fails (λ v. up_to (delayed x v) mark || int_le P.until (delayed x v).time) vias (sym (ap (λ (b : Bool). b && list_all (λ v. up_to (delayed x v) mark || int_le P.until (delayed x v).time) vias) q) ∙ h) in
-        let both = or_false (up_to (delayed x w.0) mark) (int_le P.until (delayed x w.0).time) w.2 in
+        let both = neither_holds (up_to (delayed x w.0) mark) (int_le P.until (delayed x w.0).time) w.2 in
         let c = delays w.0 w.1 in
         let late : comes_late P mark x c.0 ≡ true = subst (λ (v : Via). not (up_to (delayed x v) mark) && int_lt (delayed x v).time P.until ≡ true) c.4
-        (and_is (not (up_to (delayed x w.0) mark)) (int_lt (delayed x w.0).time P.until) (ap not both.0) (before_end (delayed x w.0) P.until both.1)) in
-        or_right (not (up_to x mark)) (list_any (λ c. (c.from == e) && same_text c.from_attr attr && comes_late P mark x c) P.conns)
+        (and_holds (not (up_to (delayed x w.0) mark)) (int_lt (delayed x w.0).time P.until) (ap not both.0) (before_end (delayed x w.0) P.until both.1)) in
+        or_second (not (up_to x mark)) (list_any (λ c. (c.from == e) && same_text c.from_attr attr && comes_late P mark x c) P.conns)
         (passes_some (λ (c : Conn). (c.from == e) && same_text c.from_attr attr && comes_late P mark x c) c.0 P.conns c.1
-        (and_is ((c.0.from == e) && same_text c.0.from_attr attr) (comes_late P mark x c.0) (and_is (c.0.from == e) (same_text c.0.from_attr attr) (same_from c.0.from e (sym c.2)) ((bytes_eq-Decides c.0.from_attr attr).1 (sym c.3))) late))
+        (and_holds ((c.0.from == e) && same_text c.0.from_attr attr) (comes_late P mark x c.0) (and_holds (c.0.from == e) (same_text c.0.from_attr attr) (equal_same c.0.from e (sym c.2)) ((bytes_eq-Decides c.0.from_attr attr).1 (sym c.3))) late))
 
 module _ (P : Plan) (b : Buffers) (S : Supply) (st : StandFor P b S) where
   abbrev late_at : ℕ → List ℕ → ℕ

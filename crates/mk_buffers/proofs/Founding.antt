@@ -45,7 +45,9 @@ use Rattle.mk_buffers.proofs.Collecting.{outlets_total, key_of}
 use Rattle.mk_buffers.proofs.Aligning.{aligned}
 use Rattle.mk_plan_judge.proofs.Puts.{all_has}
 use Rattle.mk_buffers.proofs.Rising.{get_more}
-use Rattle.mk_buffers.proofs.Standing.{key_is, both_from}
+use Rattle.mk_buffers.proofs.Standing.{key_is}
+use Rattle.mk_base.proofs.Counts.{equal_same, same_equal}
+use Rattle.mk_base.proofs.Bools.{both_hold}
 
 sorted_at : {X : Type 0} (order : X → X → Ordering) (xs : List X) (i j : ℕ) (x y : X) → IsStrictlySortedBy order xs → i < j → slice_get xs i ≡ Some x → slice_get xs j ≡ Some y → order x y ≡ Less
 unfolding IsStrictlySortedBy
@@ -54,15 +56,9 @@ sorted_at order (z ∷ zs) i zero x y s l at to = absurd (omega (arith, l))
 sorted_at order (z ∷ zs) zero (suc j) x y s l at to = subst (λ w. order w y ≡ Less) (some_same at) (all_has (λ w. order z w ≡ Less) zs y s.0 (at_in y zs j to))
 sorted_at order (z ∷ zs) (suc i) (suc j) x y s l at to = sorted_at order zs i j x y s.1 (omega (arith, l)) at to
 
-eq_to : (m n : ℕ) → (m == n) ≡ true → m ≡ n
-eq_to m n h = grind (arith, nat_tests)
-
-eq_of : (m n : ℕ) → m ≡ n → (m == n) ≡ true
-eq_of m n h = grind (arith, nat_tests)
-
 -- a connection's source, from the test
 conn_key : (c : Conn) (e : ℕ) (attr : List ℕ) → (c.from == e) && same_text c.from_attr attr ≡ true → (c.from ≡ e) × (c.from_attr ≡ attr)
-conn_key c e attr h = let both = both_from (c.from == e) (same_text c.from_attr attr) h in (eq_to c.from e both.0, (bytes_eq-Decides c.from_attr attr).0 both.1)
+conn_key c e attr h = let both = both_hold (c.from == e) (same_text c.from_attr attr) h in (same_equal c.from e both.0, (bytes_eq-Decides c.from_attr attr).0 both.1)
 
 not_less : {X : Type 0} (order : X → X → Ordering) → IsTotalOrder order → (x : X) → order x x ≡ Less → ⊥
 not_less order total x less = let wrong : Less ≡ Greater = sym less ∙ total.antisymm x x ∙ ap ordering_reverse less in cc
@@ -212,13 +208,13 @@ module _ (P : Plan) (names : HasDistinctNames P) (done : List Source) (sources :
     inlets_are s l at = let a = listed.each s l at in record {
       sorted = a.sorted;
       each = λ i r. let t = a.each i r in let k = ends.each t.0 t.1 in
-          (k.1.of, filter_in (λ (c : Conn). owner P c.to == s) k.1.of P.conns (at_in k.1.of P.conns k.0 k.1.at_place) (eq_of (owner P k.1.of.to) s (sym k.1.is.sim ∙ t.2)), inlet_is t.0 k.0 i t.3 k.1);
+          (k.1.of, filter_in (λ (c : Conn). owner P c.to == s) k.1.of P.conns (at_in k.1.of P.conns k.0 k.1.at_place) (equal_same (owner P k.1.of.to) s (sym k.1.is.sim ∙ t.2)), inlet_is t.0 k.0 i t.3 k.1);
       all = λ c r.
           let f = in_filter (λ (c : Conn). owner P c.to == s) c P.conns r in
           let p = in_at c P.conns f.0 in
           let t = ends.all p.0 (get_is P.conns p.0 c p.1).0 in
           let conn : t.2.of ≡ c = some_same (sym t.2.at_place ∙ p.1) in
-          let i = a.all t.0 t.1 (t.2.is.sim ∙ ap (λ (d : Conn). owner P d.to) conn ∙ eq_to (owner P c.to) s f.1) in
+          let i = a.all t.0 t.1 (t.2.is.sim ∙ ap (λ (d : Conn). owner P d.to) conn ∙ same_equal (owner P c.to) s f.1) in
           (i.0, i.1, subst (λ (d : Conn). IsInlet P b d i.0) conn (inlet_is t.0 p.0 i.0 i.2 t.2));
     }
 

@@ -29,7 +29,7 @@ use Rattle.mk_buffers.specs.Listing.{inlet_order}
 use Rattle.mk_buffers.specs.Held.{input_of}
 use Rattle.mk_plan_judge.proofs.Putting.{turned}
 use Rattle.mk_plan_judge.proofs.Puts.{all_has, put_from, put_is_in, puts_from, puts_sorted, same_sorted}
-use Rattle.mk_order.proofs.Assembled.{last_with, puts_by_last}
+use Rattle.mk_order.proofs.Assembled.{last_with, puts_by_last, inputs_total}
 use Rattle.mk_order.proofs.GivenValues.{is_for, assemble_given}
 use Rattle.mk_buffers.specs.declared.sets.Slot.{Slot}
 use Rattle.mk_buffers.specs.Slots.{AnswerGifts}
@@ -37,7 +37,6 @@ use Rattle.mk_buffers.specs.inner.Slots.{set_inputs}
 use Rattle.mk_buffers.proofs.Slots.{as_input, last_set, last_given}
 use Rattle.mk_buffers.specs.Standing.{AreInlets, AreGifts, StandFor, mark_of, given, value_for}
 use Rattle.mk_buffers.specs.inner.Standing.{IsAfterStart, HasGathered}
-use Rattle.mk_buffers.proofs.Putting.{inputs_total}
 use Rattle.mk_buffers.proofs.Picking.{given_same}
 
 module _ {X : Type 0} where

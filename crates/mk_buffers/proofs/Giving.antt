@@ -26,16 +26,17 @@ use Rattle.mk_base.proofs.Lists.{get_is}
 use Rattle.mk_buffers.specs.declared.gifts.Target.{Target}
 use Rattle.mk_buffers.proofs.Slots.{answer_apart, answer_taken}
 use Rattle.mk_buffers.specs.Bounds.{HasShape}
-use Rattle.mk_buffers.proofs.Standing.{of_same, eq_from, same_from, apart_from, low_or_past, same_tight}
+use Rattle.mk_buffers.proofs.Standing.{of_same, low_or_past, same_tight}
+use Rattle.mk_base.proofs.Counts.{equal_same, same_equal, not_same}
 
 -- one more set value
 module _ (P : Plan) (S : Supply) (e : ℕ) (g : Gift) (src : IsSourced P e g.given) (valid : IsValidPlan P) where
   with_source : (f : ℕ) → f < length P.entities → (b : Bool) → (f == e) ≡ b → filter (λ h. same_text h.given.source (full_id P f)) (g ∷ []) ≡ cond b (g ∷ []) []
-  with_source f low true is = ap (λ (c : Bool). cond c (g ∷ []) []) (ap (λ (u : List ℕ). same_text u (full_id P f)) src.source ∙ ap (λ (d : ℕ). same_text (full_id P e) (full_id P d)) (eq_from f e is) ∙ (bytes_eq-Decides (full_id P e) (full_id P e)).1 refl)
+  with_source f low true is = ap (λ (c : Bool). cond c (g ∷ []) []) (ap (λ (u : List ℕ). same_text u (full_id P f)) src.source ∙ ap (λ (d : ℕ). same_text (full_id P e) (full_id P d)) (same_equal f e is) ∙ (bytes_eq-Decides (full_id P e) (full_id P e)).1 refl)
   with_source f low false is = go (same_text g.given.source (full_id P f)) refl
     where
       go : (c : Bool) → same_text g.given.source (full_id P f) ≡ c → filter (λ h. same_text h.given.source (full_id P f)) (g ∷ []) ≡ []
-      go true h = absurd (true≢false (sym (same_from f e (same_full P valid.well_formed.names valid.well_formed.references f e low src.below (sym ((bytes_eq-Decides g.given.source (full_id P f)).0 h) ∙ src.source))) ∙ is))
+      go true h = absurd (true≢false (sym (equal_same f e (same_full P valid.well_formed.names valid.well_formed.references f e low src.below (sym ((bytes_eq-Decides g.given.source (full_id P f)).0 h) ∙ src.source))) ∙ is))
       go false h = ap (λ (c : Bool). cond c (g ∷ []) []) h
 
   given_more_of : (f : ℕ) (b : Bool) → (f == e) ≡ b → S.gifts f ++ cond b (g ∷ []) [] ≡ cond (f == e) (S.gifts f ++ g ∷ []) (S.gifts f)
@@ -79,9 +80,9 @@ module _ (P : Plan) (S : Supply) (e : ℕ) (g : Gift) (src : IsSourced P e g.giv
             let it : d.after ≡ l = some_same (sym (set_here b.sets.items s d.after d.before d.at_place) ∙ ap (slice_get (slice_set b.sets.items s d.after)) (sym same) ∙ at) in
             subst (λ (q : List Slot). AnswerGifts P r (mark_of b r) q (st.gifts.0 ++ g ∷ [])) it
             (subst (λ (q : ℕ). AnswerGifts P q (mark_of b q) d.after (st.gifts.0 ++ g ∷ [])) (sym same)
-            (answer_taken P s (mark_of b s) g d.before d.after st.gifts.0 _ _ d.taken (λ k. record { eid = sym named k; attr = g.given.attr; source = g.given.source; value = g.given.value }) refl (same_from (owner P g.given.entity) s (sym own))
+            (answer_taken P s (mark_of b s) g d.before d.after st.gifts.0 _ _ d.taken (λ k. record { eid = sym named k; attr = g.given.attr; source = g.given.source; value = g.given.value }) refl (equal_same (owner P g.given.entity) s (sym own))
             (st.gifts.2 s d.before d.at_place (subst (λ (q : ℕ). q < length P.sims) same low))))
-        | inr apart ↦ answer_apart P r (mark_of b r) g l st.gifts.0 (apart_from (owner P g.given.entity) r (λ q. apart (sym q ∙ sym own))) (st.gifts.2 r l (sym (set_else b.sets.items s r d.after apart) ∙ at) low)
+        | inr apart ↦ answer_apart P r (mark_of b r) g l st.gifts.0 (not_same (owner P g.given.entity) r (λ q. apart (sym q ∙ sym own))) (st.gifts.2 r l (sym (set_else b.sets.items s r d.after apart) ∙ at) low)
       ]
 
   -- a set value for nobody
@@ -91,7 +92,7 @@ module _ (P : Plan) (S : Supply) (e : ℕ) (g : Gift) (src : IsSourced P e g.giv
     texts = texts_more st.texts;
     outputs = st.outputs;
     among = st.among;
-    gifts = (st.gifts.0 ++ g ∷ [], gifts_more st.gifts.0 st.gifts.1, λ r l at low. answer_apart P r (mark_of b r) g l st.gifts.0 (apart_from (owner P g.given.entity) r (λ q. nobody r low q)) (st.gifts.2 r l at low));
+    gifts = (st.gifts.0 ++ g ∷ [], gifts_more st.gifts.0 st.gifts.1, λ r l at low. answer_apart P r (mark_of b r) g l st.gifts.0 (not_same (owner P g.given.entity) r (λ q. nobody r low q)) (st.gifts.2 r l at low));
   }
     where
       nobody : (r : ℕ) → r < length P.sims → owner P g.given.entity ≡ r → ⊥

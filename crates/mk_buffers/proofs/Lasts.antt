@@ -12,6 +12,7 @@ use Rattle.mk_buffers_log.specs.Logs.{within}
 use Rattle.mk_buffers.specs.Slots.{or_before, last_of, last_within, SameLast}
 use Rattle.mk_buffers.specs.inner.Slots.{TakesLast}
 use Rattle.mk_buffers_log.proofs.Ascending.{since_later}
+use Rattle.mk_base.proofs.Bools.{and_holds, both_hold}
 
 -- the first of two that is there
 abbrev pub or_last : Option Timed → Option Timed → Option Timed
@@ -46,13 +47,6 @@ taken_in m old middle new t is less hs f p x h = less p x h ∙ ap (last_within 
 pub same_later : (m n : Tier) (ks hs : List Timed) → IsUpTo m n → SameLast m ks hs → SameLast n ks hs
 same_later m n ks hs up f p x h = f p x (up_to_trans m n x up h)
 
-both : (a b : Bool) → a && b ≡ true → (a ≡ true) × (b ≡ true)
-both true b h = (refl, h)
-both false b h = absurd (true≢false (sym h))
-
-and_both : (a b : Bool) → a ≡ true → b ≡ true → a && b ≡ true
-and_both a b h k = rw (h, k) refl
-
 -- a value may go if the next one stands for it
 without_first : (m : Tier) (a b : Timed) (ts : List Timed) → IsUpTo b.at m → IsUpTo a.at b.at → SameLast m (b ∷ ts) (a ∷ b ∷ ts)
 without_first m a b ts low less p x h = by (within false p x a) refl
@@ -62,7 +56,7 @@ without_first m a b ts low less p x h = by (within false p x a) refl
     over (Some u) = refl
 
     here : within false p x a ≡ true → within false p x b ≡ true
-    here e = let t = both (up_to a.at x) (is_since p a.at) e in and_both (up_to b.at x) (is_since p b.at) (up_to_trans b.at m x low h) (since_later p a.at b.at less t.1)
+    here e = let t = both_hold (up_to a.at x) (is_since p a.at) e in and_holds (up_to b.at x) (is_since p b.at) (up_to_trans b.at m x low h) (since_later p a.at b.at less t.1)
 
     by : (c : Bool) → within false p x a ≡ c → last_of (filter (within false p x) (b ∷ ts)) ≡ last_of (cond c (a ∷ filter (within false p x) (b ∷ ts)) (filter (within false p x) (b ∷ ts)))
     by false e = refl
@@ -73,7 +67,7 @@ pub forget_first : (m : Tier) (ts all new : List Timed) (a b : Timed) → 1 < le
 forget_first m [] all new a b there is next h gone f = absurd (omega arith)
 forget_first m (c ∷ []) all new a b there is next h gone f = absurd (omega arith)
 forget_first m (c ∷ d ∷ ts) all new a b there is next h gone f =
-    let t = both (up_to b.at m) (up_to a.at b.at) h in
+    let t = both_hold (up_to b.at m) (up_to a.at b.at) h in
     let g : SameLast m (d ∷ ts) (c ∷ d ∷ ts) = without_first m c d ts (subst (λ (w : Timed). IsUpTo w.at m) next t.0) (subst (λ (w : Timed). IsUpTo c.at w.at) next (subst (λ (w : Timed). IsUpTo w.at b.at) is t.1)) in
     λ p x k. ap (last_within p x) gone ∙ g p x k ∙ f p x k
 

@@ -4,10 +4,6 @@ use Rattle.mk_base.specs.declared.tier.Tier.{Tier}
 use Rattle.mk_base.specs.Tiers.{up_to}
 use Rattle.mk_base.proofs.TierOrder.{up_to_trans, up_to_total}
 
-pub or_false : (b : Bool) → b ≡ b || false
-or_false true = refl
-or_false false = refl
-
 by_first : (a b : Bool) → (b ≡ true → a ≡ true) → a ≡ a || b
 by_first true b h = refl
 by_first false true h = h refl

@@ -29,7 +29,7 @@ use Rattle.mk_buffers.proofs.Lasts.{or_last, last_filtered}
 use Rattle.mk_plan_judge.proofs.Putting.{put_found, put_unfound}
 use Rattle.mk_buffers_log.proofs.Places.{get_some}
 use Rattle.mk_plan_judge.proofs.Puts.{all_has}
-use Rattle.mk_buffers.proofs.Rising.{then_equal}
+use Rattle.mk_base.proofs.Bools.{both_equal}
 
 pub slots_total : IsTotalOrder slot_order
 slots_total = then_total (on_texts (λ (i : Slot). i.eid)) (then_total (on_texts (λ (i : Slot). i.attr)) (on_texts (λ (i : Slot). i.source)))
@@ -38,8 +38,8 @@ slots_total = then_total (on_texts (λ (i : Slot). i.eid)) (then_total (on_texts
 
 pub key_of : (k n : Input) → input_order k n ≡ Equal → (k.eid ≡ n.eid) × (k.attr ≡ n.attr) × (k.source ≡ n.source)
 key_of k n e =
-    let t = then_equal (text_order k.eid n.eid) (ordering_then (text_order k.attr n.attr) (text_order k.source n.source)) e in
-    let u = then_equal (text_order k.attr n.attr) (text_order k.source n.source) t.1 in
+    let t = both_equal (text_order k.eid n.eid) (ordering_then (text_order k.attr n.attr) (text_order k.source n.source)) e in
+    let u = both_equal (text_order k.attr n.attr) (text_order k.source n.source) t.1 in
     (exact_bytes k.eid n.eid t.0, exact_bytes k.attr n.attr u.0, exact_bytes k.source n.source u.1)
 
 -- an input of the same names compares the same

@@ -43,6 +43,8 @@ use Rattle.mk_buffers_log.proofs.Ascending.{answers_self}
 use Rattle.mk_buffers.proofs.Lasts.{same_self, same_later}
 use Rattle.mk_buffers_log.proofs.Keeping.{among_self, among_trans, among_more}
 use Rattle.mk_buffers.proofs.Tight.{swept_same, swept_at, swept_less, shape_same, sum_set}
+use Rattle.mk_base.proofs.Counts.{equal_same, same_equal}
+use Rattle.mk_base.proofs.Bools.{both_hold}
 
 module _ (until : ℤ) (mark : Tier) where
   thinned_self : (o : Outlet) → IsThinned until mark o o
@@ -220,30 +222,13 @@ keyless b e attr home outlets None at is none = λ h there i low high.
     let same : h ≡ home = some_same (sym there ∙ at) in
     subst (λ (os : List Outlet). has_key os e attr i ≡ false) is (none i (subst (λ (x : Home). x.outlets.first ≤ i) same low) (subst (λ (x : Home). i < x.outlets.end) same high))
 
-pub eq_from : (m n : ℕ) → (m == n) ≡ true → m ≡ n
-eq_from m n h = grind (arith, nat_tests)
-
-pub same_from : (m n : ℕ) → m ≡ n → (m == n) ≡ true
-same_from m n h = grind (arith, nat_tests)
-
-pub apart_from : (m n : ℕ) → (m ≡ n → ⊥) → (m == n) ≡ false
-apart_from m n h = go (m == n) refl
-  where
-    go : (c : Bool) → (m == n) ≡ c → (m == n) ≡ false
-    go true e = absurd (h (eq_from m n e))
-    go false e = e
-
 pub low_or_past : {X : Type 0} (xs : List X) (i : ℕ) → (i < length xs) ⊎ (slice_get xs i ≡ None)
 low_or_past [] i = inr refl
 low_or_past (x ∷ xs) zero = inl (omega arith)
 low_or_past (x ∷ xs) (suc i) = elim (low_or_past xs i) [ inl l ↦ inl (omega (arith, l)) | inr n ↦ inr n ]
 
-pub both_from : (a b : Bool) → a && b ≡ true → (a ≡ true) × (b ≡ true)
-both_from true b h = (refl, h)
-both_from false b h = absurd (true≢false (sym h))
-
 pub key_is : (e : ℕ) (attr : List ℕ) (o : Outlet) → is_key e attr o ≡ true → (o.entity ≡ e) × (o.attr ≡ attr)
-key_is e attr o h = let parts = both_from (o.entity == e) (same_text o.attr attr) h in (eq_from o.entity e parts.0, (bytes_eq-Decides o.attr attr).0 parts.1)
+key_is e attr o h = let parts = both_hold (o.entity == e) (same_text o.attr attr) h in (same_equal o.entity e parts.0, (bytes_eq-Decides o.attr attr).0 parts.1)
 
 pub value_found : (P : Plan) (b : Buffers) (S : Supply) (e : ℕ) (attr : List ℕ) (x : Tier) (i : ℕ) (o : Outlet) → StandFor P b S → has_key b.outlets.items e attr i ≡ true → o ≡ get_or b.outlets.items i o → IsUpTo b.marks.least x
     → option_map (λ t. t.value) (latest (by x o.log)) ≡ value_at S x e attr
@@ -405,7 +390,7 @@ stands_new P b S new none nothing = record {
 
 -- a wanted attribute's outlet, by its key
 pub outlet_key : (P : Plan) (b : Buffers) (s : ℕ) (w : Want) (i : ℕ) (f : IsOutletFor P b s w i) → HasKey b f.outlet.entity w.attr i
-outlet_key P b s w i f = ap (λ (o : Option Outlet). unwrap_or (option_map (is_key f.outlet.entity w.attr) o) false) f.at_place ∙ (λ k. (same_from f.outlet.entity f.outlet.entity refl k) && same_text (f.attr k) w.attr) ∙ (bytes_eq-Decides w.attr w.attr).1 refl
+outlet_key P b s w i f = ap (λ (o : Option Outlet). unwrap_or (option_map (is_key f.outlet.entity w.attr) o) false) f.at_place ∙ (λ k. (equal_same f.outlet.entity f.outlet.entity refl k) && same_text (f.attr k) w.attr) ∙ (bytes_eq-Decides w.attr w.attr).1 refl
 
 -- a value that is found is the text of a value
 pub value_text : (S : Supply) → HasValueTexts S → (x : Tier) (e : ℕ) (attr : List ℕ) (v : List ℕ) → Some v ≡ value_at S x e attr → IsValueText v

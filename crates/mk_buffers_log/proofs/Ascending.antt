@@ -17,6 +17,7 @@ use Rattle.mk_plan.specs.Inputs.{later, latest, is_since}
 use Rattle.mk_buffers_log.specs.Logs.{arrival, arrivals, by, is_in_time, within, AnswersFrom}
 use Rattle.mk_buffers_log.specs.inner.Logs.{does_come, weighed, AllFrom, IsAscending, is_overtaken, SameAnswers, PlacedFor, IsEarlierAt}
 use Rattle.mk_buffers_log.proofs.Latest.{without, moved, latest_last}
+use Rattle.mk_base.proofs.Bools.{and_holds, both_hold}
 
 -- where there is one output at most
 pub short_ascends : (ts : List Timed) → length ts < 2 → IsAscending ts
@@ -69,13 +70,6 @@ IsDownward test = (x y : Tier) → IsUpTo x y → test y ≡ true → test x ≡
 pub partitioned : (test : Tier → Bool) → IsDownward test → (ts : List Timed) → IsAscending ts → IsPartitionedBy (λ t. test t.at) ts
 partitioned test down ts up i j d le there h = down (get_or ts i d).at (get_or ts j d).at (ascending_at ts i j d up le there) h
 
-pub and_both : (a b : Bool) → a && b ≡ true → (a ≡ true) × (b ≡ true)
-and_both true b h = (refl, h)
-and_both false b h = absurd (true≢false (sym h))
-
-pub and_is : (a b : Bool) → a ≡ true → b ≡ true → a && b ≡ true
-and_is a b h k = rw (h, k) refl
-
 earlier_end : (x y : Tier) (until : ℤ) → up_to x y ≡ true → int_lt y.time until ≡ true → int_lt x.time until ≡ true
 earlier_end x y until h k = grind (arith, ints)
 
@@ -84,8 +78,8 @@ in_time_before None x y h k = refl
 in_time_before (Some until) x y h k = earlier_end x y until h k
 
 pub comes_downward : (v : Via) (until : Option ℤ) (x : Tier) → IsDownward (does_come v until x)
-comes_downward v until x t u h k = let parts = and_both (up_to (delayed u v) x) (is_in_time until (delayed u v)) k in
-    and_is (up_to (delayed t v) x) (is_in_time until (delayed t v)) (up_to_trans (delayed t v) (delayed u v) x (delayed_keeps t u v h) parts.0)
+comes_downward v until x t u h k = let parts = both_hold (up_to (delayed u v) x) (is_in_time until (delayed u v)) k in
+    and_holds (up_to (delayed t v) x) (is_in_time until (delayed t v)) (up_to_trans (delayed t v) (delayed u v) x (delayed_keeps t u v h) parts.0)
     (in_time_before until (delayed t v) (delayed u v) (delayed_keeps t u v h) parts.1)
 
 pub made_downward : (x : Tier) → IsDownward (λ t. up_to t x)
@@ -324,8 +318,8 @@ split_two (t ∷ u ∷ ts) (suc p) d e there is next = let rest = split_two (u �
 
 pub list_all_in : (f : Via → Bool) (vs : List Via) (v : Via) → list_all f vs ≡ true → IsIn v vs → f v ≡ true
 list_all_in f [] v h m = absurd m
-list_all_in f (w ∷ ws) v h (inl q) = ap f q ∙ (and_both (f w) (list_all f ws) h).0
-list_all_in f (w ∷ ws) v h (inr m) = list_all_in f ws v (and_both (f w) (list_all f ws) h).1 m
+list_all_in f (w ∷ ws) v h (inl q) = ap f q ∙ (both_hold (f w) (list_all f ws) h).0
+list_all_in f (w ∷ ws) v h (inr m) = list_all_in f ws v (both_hold (f w) (list_all f ws) h).1 m
 
 pub since_later : (p : Option Tier) (x y : Tier) → up_to x y ≡ true → is_since p x ≡ true → is_since p y ≡ true
 since_later None x y h k = refl
@@ -357,7 +351,7 @@ forget_step vias until mark ts all new p d e up answers there is next over gone 
     let front : List Timed = s.0 in
     let back : List Timed = s.1 in
     let less : IsUpTo d.at e.at = subst (λ (w : Timed). IsUpTo w.at e.at) (sym is) (subst (λ (w : Timed). IsUpTo (get_or ts p d).at w.at) (get_or_any ts (p + 1) d e (omega arith) ∙ sym next) (ascending_at ts p (p + 1) d up (omega arith) (omega arith))) in
-    let come = and_both (up_to e.at mark) (list_all (λ v. does_come v (Some until) mark e.at || int_le until (delayed d.at v).time) vias) over in (
+    let come = both_hold (up_to e.at mark) (list_all (λ v. does_come v (Some until) mark e.at || int_le until (delayed d.at v).time) vias) over in (
       subst IsAscending (sym gone) (ascending_remove ts p up),
       record {
         made = λ x h. ap (λ (l : List Timed). latest (by x l)) (gone ∙ s.3)
@@ -369,12 +363,12 @@ forget_step vias until mark ts all new p d e up answers there is next over gone 
             ∙ ap latest (filter_both (within all p x) (λ y. is_in_time (Some until) y.at) (map (arrival v) (front ++ e ∷ back)))
             ∙ ap (λ (l : List Timed). latest (filter C l)) (map_append (arrival v) front (e ∷ back))
             ∙ sym (without C (map (arrival v) front) (arrival v e ∷ map (arrival v) back) (arrival v d) (arrival v e) (inl refl) (delayed_keeps d.at e.at v less)
-            (λ k. let a = and_both (int_lt (delayed d.at v).time until) (within all p x (arrival v d)) k in
-            let b = and_both (up_to (delayed d.at v) x) (all || is_since p (delayed d.at v)) a.1 in
-            let c = and_both (up_to (delayed e.at v) mark) (int_lt (delayed e.at v).time until)
+            (λ k. let a = both_hold (int_lt (delayed d.at v).time until) (within all p x (arrival v d)) k in
+            let b = both_hold (up_to (delayed d.at v) x) (all || is_since p (delayed d.at v)) a.1 in
+            let c = both_hold (up_to (delayed e.at v) mark) (int_lt (delayed e.at v).time until)
             (comes_in_time (does_come v (Some until) mark e.at) (delayed d.at v) until (list_all_in (λ v. does_come v (Some until) mark e.at || int_le until (delayed d.at v).time) vias v come.1 m) a.0) in
-            and_is (int_lt (delayed e.at v).time until) (within all p x (arrival v e)) c.1
-            (and_is (up_to (delayed e.at v) x) (all || is_since p (delayed e.at v))
+            and_holds (int_lt (delayed e.at v).time until) (within all p x (arrival v e)) c.1
+            (and_holds (up_to (delayed e.at v) x) (all || is_since p (delayed e.at v))
             (up_to_trans (delayed e.at v) mark x c.0 h)
             (or_either all (is_since p (delayed d.at v)) (is_since p (delayed e.at v)) (since_later p (delayed d.at v) (delayed e.at v) (delayed_keeps d.at e.at v less)) b.1))))
             ∙ ap (λ (l : List Timed). latest (filter C l)) (sym (map_append (arrival v) front (d ∷ e ∷ back)))

@@ -14,7 +14,9 @@ use Rattle.mk_buffers_log.proofs.Places.{get_some}
 use Rattle.mk_plan.specs.Deliveries.{Timed}
 use Rattle.mk_buffers_log.specs.Logs.{is_settled, IsAmong, IsFew}
 use Rattle.mk_buffers_log.specs.inner.Logs.{does_come, IsAscending, is_past, is_overtaken, is_held_up, IsRest, IsFirstToCome}
-use Rattle.mk_buffers_log.proofs.Ascending.{ascending_at, and_both, and_is, get_or_any, list_all_in, comes_downward, comes_in_time, in_time_before}
+use Rattle.mk_buffers_log.proofs.Ascending.{ascending_at, get_or_any, list_all_in, comes_downward, comes_in_time, in_time_before}
+use Rattle.mk_base.proofs.Counts.{at_most_one, before_end, one_less}
+use Rattle.mk_base.proofs.Bools.{and_holds, both_hold}
 
 -- ---- which are among which
 
@@ -76,7 +78,7 @@ implied f g (t ∷ ts) h = go (implied f g ts (λ u m. h u (inr m))) (f t) (g t)
 
 -- what has come has come by each of the delays
 pub past_at : (vs : List Via) (i : ℕ) (v : Via) (m x : Tier) → i < length vs → v ≡ get_or vs i v → is_past vs m x ≡ true → IsUpTo (delayed x v) m
-past_at vs i v m x there is past = list_all_in (λ v. up_to (delayed x v) m) vs v (and_both (up_to x m) (list_all (λ v. up_to (delayed x v) m) vs) past).1 (at_in v vs i (get_some vs i v there is))
+past_at vs i v m x there is past = list_all_in (λ v. up_to (delayed x v) m) vs v (both_hold (up_to x m) (list_all (λ v. up_to (delayed x v) m) vs) past).1 (at_in v vs i (get_some vs i v there is))
 
 -- ---- how many questions at the mark an output may answer
 
@@ -84,32 +86,21 @@ abbrev pub alive : List Via → ℤ → Tier → Tier → ℕ
 alive [] until mark x = cond (up_to x mark) 1 0
 alive (v ∷ vs) until mark x = cond (does_come v (Some until) mark x) 1 0 + alive vs until mark x
 
-at_most : (b : Bool) → cond b 1 0 ≤ 1
-at_most true = omega arith
-at_most false = omega arith
-
-no_more : (a b : Bool) → (a ≡ true → b ≡ true) → cond a 1 0 ≤ cond b 1 0
-no_more true b h = rw (h refl) (omega arith)
-no_more false b h = omega arith
-
 alive_most : (vias : List Via) (until : ℤ) (mark x : Tier) → alive vias until mark x ≤ length vias + 1
-alive_most [] until mark x = at_most (up_to x mark)
-alive_most (v ∷ vs) until mark x = omega (arith, at_most (does_come v (Some until) mark x), alive_most vs until mark x)
+alive_most [] until mark x = at_most_one (up_to x mark)
+alive_most (v ∷ vs) until mark x = omega (arith, at_most_one (does_come v (Some until) mark x), alive_most vs until mark x)
 
 alive_some : (vias : List Via) (until : ℤ) (mark x : Tier) → up_to x mark ≡ true → 1 ≤ alive vias until mark x
 alive_some [] until mark x h = rw h (omega arith)
 alive_some (v ∷ vs) until mark x h = omega (arith, alive_some vs until mark x h)
 
 alive_falls : (vias : List Via) (until : ℤ) (mark x y : Tier) → IsUpTo x y → alive vias until mark y ≤ alive vias until mark x
-alive_falls [] until mark x y h = no_more (up_to y mark) (up_to x mark) (λ k. up_to_trans x y mark h k)
-alive_falls (v ∷ vs) until mark x y h = omega (arith, no_more (does_come v (Some until) mark y) (does_come v (Some until) mark x) (λ k. comes_downward v (Some until) mark x y h k), alive_falls vs until mark x y h)
+alive_falls [] until mark x y h = one_less (up_to y mark) (up_to x mark) (λ k. up_to_trans x y mark h k)
+alive_falls (v ∷ vs) until mark x y h = omega (arith, one_less (does_come v (Some until) mark y) (does_come v (Some until) mark x) (λ k. comes_downward v (Some until) mark x y h k), alive_falls vs until mark x y h)
 
 alive_made : (vias : List Via) (until : ℤ) (mark x y : Tier) → IsUpTo x y → up_to x mark ≡ true → up_to y mark ≡ false → alive vias until mark y + 1 ≤ alive vias until mark x
 alive_made [] until mark x y h p q = rw (p, q) (omega arith)
-alive_made (v ∷ vs) until mark x y h p q = omega (arith, no_more (does_come v (Some until) mark y) (does_come v (Some until) mark x) (λ k. comes_downward v (Some until) mark x y h k), alive_made vs until mark x y h p q)
-
-in_time_or : (x : Tier) (until : ℤ) → int_le until x.time ≡ false → int_lt x.time until ≡ true
-in_time_or x until h = grind (arith, ints)
+alive_made (v ∷ vs) until mark x y h p q = omega (arith, one_less (does_come v (Some until) mark y) (does_come v (Some until) mark x) (λ k. comes_downward v (Some until) mark x y h k), alive_made vs until mark x y h p q)
 
 abbrev counted : Bool → ℕ
 counted b = cond b 1 0
@@ -120,10 +111,10 @@ alive_come [] until mark x y h p q = absurd (true≢false q)
 alive_come (v ∷ vs) until mark x y h p q = go (λ r. alive_come vs until mark x y h parts.1 r) (does_come v (Some until) mark y) (int_le until (delayed x v).time) refl refl
   where
     parts : (up_to (delayed x v) mark || int_le until (delayed x v).time ≡ true) × (list_all (λ v. up_to (delayed x v) mark || int_le until (delayed x v).time) vs ≡ true)
-    parts = and_both (up_to (delayed x v) mark || int_le until (delayed x v).time) (list_all (λ v. up_to (delayed x v) mark || int_le until (delayed x v).time) vs) p
+    parts = both_hold (up_to (delayed x v) mark || int_le until (delayed x v).time) (list_all (λ v. up_to (delayed x v) mark || int_le until (delayed x v).time) vs) p
 
     least : cond (does_come v (Some until) mark y) 1 0 ≤ cond (does_come v (Some until) mark x) 1 0
-    least = no_more (does_come v (Some until) mark y) (does_come v (Some until) mark x) (λ k. comes_downward v (Some until) mark x y h k)
+    least = one_less (does_come v (Some until) mark y) (does_come v (Some until) mark x) (λ k. comes_downward v (Some until) mark x y h k)
 
     rest : (list_all (λ v. does_come v (Some until) mark y || int_le until (delayed x v).time) vs ≡ false → alive vs until mark y + 1 ≤ alive vs until mark x)
         → does_come v (Some until) mark y || int_le until (delayed x v).time ≡ true → alive (v ∷ vs) until mark y + 1 ≤ alive (v ∷ vs) until mark x
@@ -134,8 +125,8 @@ alive_come (v ∷ vs) until mark x y h p q = go (λ r. alive_come vs until mark 
     go more true b e f = rest more (ap (λ (c : Bool). c || int_le until (delayed x v).time) e)
     go more false true e f = rest more (ap (λ (c : Bool). c || int_le until (delayed x v).time) e ∙ f)
     go more false false e f =
-        let ends : int_lt (delayed x v).time until ≡ true = in_time_or (delayed x v) until f in
-        let here : does_come v (Some until) mark x ≡ true = and_is (up_to (delayed x v) mark) (int_lt (delayed x v).time until) (comes_in_time (up_to (delayed x v) mark) (delayed x v) until parts.0 ends) ends in
+        let ends : int_lt (delayed x v).time until ≡ true = before_end (delayed x v) until f in
+        let here : does_come v (Some until) mark x ≡ true = and_holds (up_to (delayed x v) mark) (int_lt (delayed x v).time until) (comes_in_time (up_to (delayed x v) mark) (delayed x v) until parts.0 ends) ends in
         let none : counted (does_come v (Some until) mark y) ≡ 0 = ap counted e in
         let one : counted (does_come v (Some until) mark x) ≡ 1 = ap counted here in
         omega (arith, none, one, alive_falls vs until mark x y h)
@@ -144,7 +135,7 @@ alive_less : (vias : List Via) (until : ℤ) (mark x y : Tier) → IsUpTo x y �
 alive_less vias until mark x y h settled over = go (up_to y mark) refl
   where
     parts : (up_to x mark ≡ true) × (list_all (λ v. up_to (delayed x v) mark || int_le until (delayed x v).time) vias ≡ true)
-    parts = and_both (up_to x mark) (list_all (λ v. up_to (delayed x v) mark || int_le until (delayed x v).time) vias) settled
+    parts = both_hold (up_to x mark) (list_all (λ v. up_to (delayed x v) mark || int_le until (delayed x v).time) vias) settled
 
     go : (b : Bool) → up_to y mark ≡ b → alive vias until mark y + 1 ≤ alive vias until mark x
     go true e = alive_come vias until mark x y h parts.1 (sym (ap (λ (b : Bool). b && list_all (λ v. does_come v (Some until) mark y || int_le until (delayed x v).time) vias) e) ∙ over)
@@ -244,7 +235,7 @@ module _ (vias : List Via) (until : ℤ) (mark : Tier) where
   few_end ts p d there w none = rw (none, next_count ts p d there) (go (settled (get_or ts p d)) refl)
     where
       go : (b : Bool) → settled (get_or ts p d) ≡ b → length (filter settled (take p ts)) + cond b 1 0 ≤ length vias + 1
-      go true h = omega (arith, w.few d there, alive_some vias until mark (get_or ts p d).at (and_both (up_to (get_or ts p d).at mark) (list_all (λ v. up_to (delayed (get_or ts p d).at v) mark || int_le until (delayed (get_or ts p d).at v).time) vias) h).0)
+      go true h = omega (arith, w.few d there, alive_some vias until mark (get_or ts p d).at (both_hold (up_to (get_or ts p d).at mark) (list_all (λ v. up_to (delayed (get_or ts p d).at v) mark || int_le until (delayed (get_or ts p d).at v).time) vias) h).0)
       go false h = omega (arith, w.few d there)
 
   pub walked_rest : (ts : List Timed) (p : ℕ) → IsAscending ts → IsWalked ts p → IsRest vias until mark ts p → IsFew vias until mark ts
@@ -271,12 +262,12 @@ module _ (vias : List Via) (until : ℤ) (mark : Tier) where
 module _ (vias : List Via) (until : ℤ) (mark m : Tier) (from : IsUpTo mark m) where
   past_settled : (vs : List Via) (x : Tier) → list_all (λ v. up_to (delayed x v) mark) vs ≡ true → list_all (λ v. up_to (delayed x v) mark || int_le until (delayed x v).time) vs ≡ true
   past_settled [] x h = refl
-  past_settled (v ∷ vs) x h = let p = and_both (up_to (delayed x v) mark) (list_all (λ v. up_to (delayed x v) mark) vs) h in
-      and_is (up_to (delayed x v) mark || int_le until (delayed x v).time) (list_all (λ v. up_to (delayed x v) mark || int_le until (delayed x v).time) vs) (ap (λ (b : Bool). b || int_le until (delayed x v).time) p.0) (past_settled vs x p.1)
+  past_settled (v ∷ vs) x h = let p = both_hold (up_to (delayed x v) mark) (list_all (λ v. up_to (delayed x v) mark) vs) h in
+      and_holds (up_to (delayed x v) mark || int_le until (delayed x v).time) (list_all (λ v. up_to (delayed x v) mark || int_le until (delayed x v).time) vs) (ap (λ (b : Bool). b || int_le until (delayed x v).time) p.0) (past_settled vs x p.1)
 
   settled_past : (x : Tier) → is_past vias mark x ≡ true → is_settled vias until mark x ≡ true
-  settled_past x h = let p = and_both (up_to x mark) (list_all (λ v. up_to (delayed x v) mark) vias) h in
-      and_is (up_to x mark) (list_all (λ v. up_to (delayed x v) mark || int_le until (delayed x v).time) vias) p.0 (past_settled vias x p.1)
+  settled_past x h = let p = both_hold (up_to x mark) (list_all (λ v. up_to (delayed x v) mark) vias) h in
+      and_holds (up_to x mark) (list_all (λ v. up_to (delayed x v) mark || int_le until (delayed x v).time) vias) p.0 (past_settled vias x p.1)
 
   -- what doesn't come by the mark leaves what was made later unsettled, while that comes before the
   -- run's end
@@ -285,7 +276,7 @@ module _ (vias : List Via) (until : ℤ) (mark m : Tier) (from : IsUpTo mark m) 
   late_later (v ∷ vs) x y h ends late = go (λ r. late_later vs x y h in_time.1 r) (up_to (delayed x v) m) refl
     where
       in_time : (int_lt (delayed y v).time until ≡ true) × (list_all (λ v. int_lt (delayed y v).time until) vs ≡ true)
-      in_time = and_both (int_lt (delayed y v).time until) (list_all (λ v. int_lt (delayed y v).time until) vs) ends
+      in_time = both_hold (int_lt (delayed y v).time until) (list_all (λ v. int_lt (delayed y v).time until) vs) ends
 
       go : (list_all (λ v. up_to (delayed x v) m) vs ≡ false → list_all (λ v. up_to (delayed y v) m || int_le until (delayed y v).time) vs ≡ false)
           → (a : Bool) → up_to (delayed x v) m ≡ a → list_all (λ v. up_to (delayed y v) m || int_le until (delayed y v).time) (v ∷ vs) ≡ false
@@ -302,8 +293,8 @@ module _ (vias : List Via) (until : ℤ) (mark m : Tier) (from : IsUpTo mark m) 
 
   all_in_time : (vs : List Via) (x y : Tier) → IsUpTo x y → list_all (λ v. int_lt (delayed y v).time until) vs ≡ true → list_all (λ v. int_lt (delayed x v).time until) vs ≡ true
   all_in_time [] x y h ends = refl
-  all_in_time (v ∷ vs) x y h ends = let p = and_both (int_lt (delayed y v).time until) (list_all (λ v. int_lt (delayed y v).time until) vs) ends in
-      and_is (int_lt (delayed x v).time until) (list_all (λ v. int_lt (delayed x v).time until) vs) (in_time_before (Some until) (delayed x v) (delayed y v) (delayed_keeps x y v h) p.0) (all_in_time vs x y h p.1)
+  all_in_time (v ∷ vs) x y h ends = let p = both_hold (int_lt (delayed y v).time until) (list_all (λ v. int_lt (delayed y v).time until) vs) ends in
+      and_holds (int_lt (delayed x v).time until) (list_all (λ v. int_lt (delayed x v).time until) vs) (in_time_before (Some until) (delayed x v) (delayed y v) (delayed_keeps x y v h) p.0) (all_in_time vs x y h p.1)
 
   few_stays : (ts : List Timed) → ((k : ℕ) (d : Timed) → k < length ts → is_settled vias until m (get_or ts k d).at ≡ true → is_settled vias until mark (get_or ts k d).at ≡ true) → IsFew vias until mark ts → IsFew vias until m ts
   few_stays ts h few = omega (

@@ -3,11 +3,6 @@ use Rattle.std.specs.Prelude.{OnOk, OnErr}
 use Rattle.std.proofs.Common.{◌≡◌, ◌≢◌, ◌⊎◌, inl, inr, ℕ, zero, suc, ◌+◌, ◌<◌, List, [], ◌∷◌, length, Some, Result, Ok, Err, slice_get, get_or, refl, arith}
 pub use Rattle.mk_plan_judge.proofs.AtPlaces.{get_any, get_some}
 
-pub get_or_some : {X : Type 0} (xs : List X) (i : ℕ) (d : X) → i < length xs → slice_get xs i ≡ Some (get_or xs i d)
-get_or_some [] i d there = absurd (omega arith)
-get_or_some (x ∷ xs) zero d there = refl
-get_or_some (x ∷ xs) (suc i) d there = get_or_some xs i d (omega arith)
-
 pub apart_or_same : (i j : ℕ) → (i ≡ j) ⊎ (i ≢ j)
 apart_or_same i j = elim (compared i j) [ inl less ↦ inr (λ e. omega arith) | inr more ↦ elim more [ inl same ↦ inl same | inr greater ↦ inr (λ e. omega arith) ] ]
   where

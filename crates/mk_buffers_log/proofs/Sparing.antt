@@ -15,26 +15,22 @@ use Rattle.mk_plan.specs.Inputs.{latest, is_since}
 use Rattle.mk_buffers_log.specs.Logs.{arrival, arrivals, by, is_in_time, is_settled, IsFew, AnswersFrom, within}
 use Rattle.mk_buffers_log.specs.inner.Logs.{does_come, is_outdone, IsNewestAt, IsOutdoneAt, IsSpare, IsNeeded}
 use Rattle.mk_buffers_log.proofs.Latest.{without, without_front}
-use Rattle.mk_buffers_log.proofs.Ascending.{and_both, and_is, list_all_in, comes_in_time, filter_both, since_later, or_either}
+use Rattle.mk_buffers_log.proofs.Ascending.{list_all_in, comes_in_time, filter_both, since_later, or_either}
 use Rattle.mk_buffers_log.proofs.Fitting.{AreApart, fitting, sum_ones}
+use Rattle.mk_base.proofs.Counts.{less_test, none_below}
+use Rattle.mk_base.proofs.Bools.{not_true, and_holds, both_hold}
 
 -- ---- which of two counts
 
-less_test : (p q : ℕ) → p < q → nat_lt p q ≡ true
-less_test p q h = grind (arith, nat_tests)
-
-not_less : (p q : ℕ) → q ≤ p → nat_lt p q ≡ false
-not_less p q h = grind (arith, nat_tests)
-
 module _ (v : Via) (until : Option ℤ) (mark : Tier) where
   outdone_behind : (x y : Tier) (p q : ℕ) → p < q → is_outdone v until mark x y p q ≡ does_come v until mark y && up_to (delayed x v) (delayed y v)
-  outdone_behind x y p q h = λ i. does_come v until mark y && (if not_less q p (omega (arith, h)) i then not (up_to (delayed y v) (delayed x v)) else less_test p q h i && up_to (delayed x v) (delayed y v))
+  outdone_behind x y p q h = λ i. does_come v until mark y && (if none_below q p (omega (arith, h)) i then not (up_to (delayed y v) (delayed x v)) else less_test p q h i && up_to (delayed x v) (delayed y v))
 
   outdone_before : (x y : Tier) (p q : ℕ) → q < p → is_outdone v until mark x y p q ≡ does_come v until mark y && not (up_to (delayed y v) (delayed x v))
   outdone_before x y p q h = λ i. does_come v until mark y && (if less_test q p h i then not (up_to (delayed y v) (delayed x v)) else nat_lt p q && up_to (delayed x v) (delayed y v))
 
   outdone_here : (x y : Tier) (p : ℕ) → is_outdone v until mark x y p p ≡ false
-  outdone_here x y p = (λ i. does_come v until mark y && (if not_less p p (omega arith) i then not (up_to (delayed y v) (delayed x v)) else not_less p p (omega arith) i && up_to (delayed x v) (delayed y v))) ∙ none (does_come v until mark y)
+  outdone_here x y p = (λ i. does_come v until mark y && (if none_below p p (omega arith) i then not (up_to (delayed y v) (delayed x v)) else none_below p p (omega arith) i && up_to (delayed x v) (delayed y v))) ∙ none (does_come v until mark y)
     where
       none : (b : Bool) → b && false ≡ false
       none true = refl
@@ -86,10 +82,6 @@ without_failing : (test : Timed → Bool) (front back : List Timed) (d : Timed) 
 without_failing test [] back d h = ap (λ (b : Bool). cond b (d ∷ filter test back) (filter test back)) h
 without_failing test (f ∷ fs) back d h = ap (λ (l : List Timed). cond (test f) (f ∷ l) l) (without_failing test fs back d h)
 
-pub not_true : (b : Bool) → not b ≡ true → b ≡ false
-not_true true h = absurd (true≢false (sym h))
-not_true false h = refl
-
 order_of : (p q : ℕ) → (p < q) ⊎ ((q < p) ⊎ (p ≡ q))
 order_of p q = grind arith
 
@@ -108,7 +100,7 @@ module _ (vias : List Via) (until : ℤ) (mark : Tier) where
     whole = parts.2 ∙ ap (λ (t : Timed). front ++ t ∷ back) (sym is)
 
     settled : (up_to d.at mark ≡ true) × (list_all (λ v. up_to (delayed d.at v) mark || int_le until (delayed d.at v).time) vias ≡ true)
-    settled = and_both (up_to d.at mark) (list_all (λ v. up_to (delayed d.at v) mark || int_le until (delayed d.at v).time) vias)
+    settled = both_hold (up_to d.at mark) (list_all (λ v. up_to (delayed d.at v) mark || int_le until (delayed d.at v).time) vias)
         (subst (λ (t : Timed). is_settled vias until mark t.at ≡ true) (sym is) (spare.settled d))
 
     -- it may be left out of what a connection delivers, where another counts rather than it, and
@@ -126,11 +118,11 @@ module _ (vias : List Via) (until : ℤ) (mark : Tier) where
             → latest (filter test (map (arrival v) front ++ arrival v d ∷ map (arrival v) back)) ≡ latest (filter test (map (arrival v) front ++ map (arrival v) back))
         by q below done (inl low) =
             let e : Timed = get_or ts q d in
-            let both = and_both (does_come v ends mark e.at) (up_to (delayed d.at v) (delayed e.at v)) (sym (outdone_behind v ends mark d.at e.at p q low) ∙ done) in
+            let both = both_hold (does_come v ends mark e.at) (up_to (delayed d.at v) (delayed e.at v)) (sym (outdone_behind v ends mark d.at e.at p q low) ∙ done) in
             without test (map (arrival v) front) (map (arrival v) back) (arrival v d) (arrival v e) (map_in (arrival v) e back (parts.5 q low below)) both.1 (goes e both.0 both.1)
         by q below done (inr (inl high)) =
             let e : Timed = get_or ts q d in
-            let both = and_both (does_come v ends mark e.at) (not (up_to (delayed e.at v) (delayed d.at v))) (sym (outdone_before v ends mark d.at e.at p q high) ∙ done) in
+            let both = both_hold (does_come v ends mark e.at) (not (up_to (delayed e.at v) (delayed d.at v))) (sym (outdone_before v ends mark d.at e.at p q high) ∙ done) in
             let less = not_true (up_to (delayed e.at v) (delayed d.at v)) both.1 in
             without_front test (map (arrival v) front) (map (arrival v) back) (arrival v d) (arrival v e) (map_in (arrival v) e front (parts.4 q high)) less (goes e both.0 (up_to_total (delayed d.at v) (delayed e.at v) less))
         by q below done (inr (inr same)) = absurd (true≢false (sym done ∙ sym (ap (is_outdone v ends mark d.at (get_or ts q d).at p) same) ∙ outdone_here v ends mark d.at (get_or ts q d).at p))
@@ -141,7 +133,7 @@ module _ (vias : List Via) (until : ℤ) (mark : Tier) where
 
     spare_made : (x : Tier) → IsUpTo mark x → latest (by x (remove ts p)) ≡ latest (by x ts)
     spare_made x h = ap (λ (l : List Timed). latest (by x l)) (parts.3 ∙ sym (as_plain (front ++ back)))
-        ∙ sym (left_out Plain None (λ t. up_to t.at x) (and_is (up_to d.at mark) true settled.0 refl) spare.made (λ e c l k. up_to_trans e.at mark x (and_both (up_to e.at mark) true c).0 h))
+        ∙ sym (left_out Plain None (λ t. up_to t.at x) (and_holds (up_to d.at mark) true settled.0 refl) spare.made (λ e c l k. up_to_trans e.at mark x (both_hold (up_to e.at mark) true c).0 h))
         ∙ ap (λ (l : List Timed). latest (by x l)) (as_plain (front ++ d ∷ back) ∙ sym whole)
 
     -- what a question about deliveries may choose
@@ -157,14 +149,14 @@ module _ (vias : List Via) (until : ℤ) (mark : Tier) where
       where
         go : (b : Bool) → int_lt (delayed d.at v).time until ≡ b → latest (filter (passes all from x) (map (arrival v) (front ++ d ∷ back))) ≡ latest (filter (passes all from x) (map (arrival v) (front ++ back)))
         go true ends = left_out v (Some until) (passes all from x)
-            (and_is (up_to (delayed d.at v) mark) (int_lt (delayed d.at v).time until) (comes_in_time (up_to (delayed d.at v) mark) (delayed d.at v) until (list_all_in (λ v. up_to (delayed d.at v) mark || int_le until (delayed d.at v).time) vias v settled.1 m) ends) ends)
+            (and_holds (up_to (delayed d.at v) mark) (int_lt (delayed d.at v).time until) (comes_in_time (up_to (delayed d.at v) mark) (delayed d.at v) until (list_all_in (λ v. up_to (delayed d.at v) mark || int_le until (delayed d.at v).time) vias v settled.1 m) ends) ends)
             (spare.arrived v m)
             (λ e c l k.
-            let a = and_both (int_lt (delayed d.at v).time until) (within all from x (arrival v d)) k in
-            let b = and_both (up_to (delayed d.at v) x) (all || is_since from (delayed d.at v)) a.1 in
-            let come = and_both (up_to (delayed e.at v) mark) (int_lt (delayed e.at v).time until) c in
-            and_is (int_lt (delayed e.at v).time until) (within all from x (arrival v e)) come.1
-            (and_is (up_to (delayed e.at v) x) (all || is_since from (delayed e.at v)) (up_to_trans (delayed e.at v) mark x come.0 h)
+            let a = both_hold (int_lt (delayed d.at v).time until) (within all from x (arrival v d)) k in
+            let b = both_hold (up_to (delayed d.at v) x) (all || is_since from (delayed d.at v)) a.1 in
+            let come = both_hold (up_to (delayed e.at v) mark) (int_lt (delayed e.at v).time until) c in
+            and_holds (int_lt (delayed e.at v).time until) (within all from x (arrival v e)) come.1
+            (and_holds (up_to (delayed e.at v) x) (all || is_since from (delayed e.at v)) (up_to_trans (delayed e.at v) mark x come.0 h)
             (or_either all (is_since from (delayed d.at v)) (is_since from (delayed e.at v)) (since_later from (delayed d.at v) (delayed e.at v) l) b.1)))
         go false ends = ap latest (ap (filter (passes all from x)) (map_append (arrival v) front (d ∷ back)) ∙ without_failing (passes all from x) (map (arrival v) front) (map (arrival v) back) (arrival v d) (ap (λ (b : Bool). b && within all from x (arrival v d)) ends)
             ∙ sym (ap (filter (passes all from x)) (map_append (arrival v) front back)))

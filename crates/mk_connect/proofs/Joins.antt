@@ -17,17 +17,10 @@ use Rattle.mk_connect_pairs.specs.Connections.{block_pairs}
 use Rattle.mk_connect.specs.ByPlace.{by_place}
 use Rattle.mk_connect.specs.inner.Joining.{joined, put_all, put_at}
 use Rattle.mk_connect.specs.Related.{is_related, joins, own_pairs, pairs_of, related}
-
-eq_of : (x y : ℕ) → nat_eq x y ≡ true → x ≡ y
-eq_of x y h = grind (arith, h)
-
-below_of : (x y : ℕ) → nat_lt x y ≡ true → x < y
-below_of x y h = grind (arith, h)
+use Rattle.mk_base.proofs.Counts.{plus_none, test_less}
+use Rattle.mk_base.proofs.Items.{length_taken, range_more, filter_same}
 
 -- ---- one place is set
-
-no_more : (n : ℕ) → n ≡ n + 0
-no_more n = omega arith
 
 put_none : (i j n : ℕ) (lists : List (List ℕ)) → i < n → by_place (put_at i j) n lists ≡ lists
 put_none i j n [] below = refl
@@ -61,14 +54,6 @@ placed_map g h a (suc n) = ap (λ l. h a (g a) ∷ l) (ap (λ m. by_place h m (m
 range_length : (a n : ℕ) → length (range_with_len a n) ≡ n
 range_length a zero = refl
 range_length a (suc n) = ap suc (range_length (a + 1) n)
-
-filter_same : (p q : ℕ → Bool) (xs : List ℕ) → ((x : ℕ) → IsIn x xs → p x ≡ q x) → filter p xs ≡ filter q xs
-filter_same p q [] same = refl
-filter_same p q (x ∷ xs) same = (λ i. if same x (inl refl) i then x ∷ filter p xs else filter p xs) ∙ at (q x) (filter_same p q xs (λ y m. same y (inr m)))
-  where
-    at : (b : Bool) → filter p xs ≡ filter q xs → (if b then x ∷ filter p xs else filter p xs) ≡ (if b then x ∷ filter q xs else filter q xs)
-    at true more = ap (λ l. x ∷ l) more
-    at false more = more
 
 -- ---- one pair more
 
@@ -128,7 +113,7 @@ module _ (count : ℕ) (pairs : List (ℕ × ℕ)) (p : ℕ × ℕ) where
   joined_related = (λ i. if not (p.0 == p.1) && nat_lt p.0 (long i) && nat_lt p.1 (long i) then put_all p.1 p.0 (put_all p.0 p.1 before_it) else before_it) ∙ at (not (p.0 == p.1) && nat_lt p.0 count && nat_lt p.1 count) refl
     where
       apart_of : (a b n : ℕ) → (not (a == b) && nat_lt a n && nat_lt b n) ≡ true → (nat_eq a b ≡ false) × (a < n) × (b < n)
-      apart_of a b n h = let t = and_parts (not (a == b) && nat_lt a n) (nat_lt b n) h in let s = and_parts (not (a == b)) (nat_lt a n) t.0 in (not_true (a == b) s.0, below_of a n s.1, below_of b n t.1)
+      apart_of a b n h = let t = and_parts (not (a == b) && nat_lt a n) (nat_lt b n) h in let s = and_parts (not (a == b)) (nat_lt a n) t.0 in (not_true (a == b) s.0, test_less a n s.1, test_less b n t.1)
         where
           not_true : (b : Bool) → not b ≡ true → b ≡ false
           not_true true h = sym h
@@ -157,13 +142,6 @@ none_related count k = filter_none (is_related [] k) (range_with_len 0 count) (�
     and_false true = refl
     and_false false = refl
 
-range_more : (a n : ℕ) → range_with_len a (suc n) ≡ range_with_len a n ++ (a + n) ∷ []
-range_more a zero = ap (λ m. m ∷ []) (no_more a)
-range_more a (suc n) = ap (λ l. a ∷ l) (range_more (a + 1) n ∙ ap (λ m. range_with_len (a + 1) n ++ m ∷ []) (over a n))
-  where
-    over : (a n : ℕ) → a + 1 + n ≡ a + suc n
-    over a n = omega arith
-
 -- one empty list more
 pub empty_more : (n : ℕ) (old new : List (List ℕ)) (x : List ℕ) → old ≡ map (λ (k : ℕ). []) (range_with_len 0 n) → x ≡ [] → new ≡ old ++ x ∷ [] → new ≡ map (λ (k : ℕ). []) (range_with_len 0 (n + 1))
 empty_more n old new x are empty made = made ∙ (λ i. are i ++ empty i ∷ []) ∙ sym (map_append (λ (k : ℕ). []) (range_with_len 0 n) ((0 + n) ∷ [])) ∙ ap (map (λ (k : ℕ). [])) (sym (range_more 0 n)) ∙ ap (λ m. map (λ (k : ℕ). []) (range_with_len 0 m)) (next n)
@@ -176,23 +154,18 @@ pub none_yet : (count n : ℕ) (lists : List (List ℕ)) → lists ≡ map (λ (
 none_yet count n lists are same = are ∙ ap (λ m. map (λ (k : ℕ). []) (range_with_len 0 m)) same ∙ map_same (λ (k : ℕ). []) (related count []) (range_with_len 0 count) (λ k m. sym (none_related count k))
 
 own_append : (n : ℕ) (xs : List EntityInfo) (e : EntityInfo) → own_pairs n (xs ++ e ∷ []) ≡ own_pairs n xs ++ map (λ i. (n + length xs, i)) e.related
-own_append n [] e = append_nil (map (λ i. (n, i)) e.related) ∙ ap (λ k. map (λ i. (k, i)) e.related) (no_more n)
+own_append n [] e = append_nil (map (λ i. (n, i)) e.related) ∙ ap (λ k. map (λ i. (k, i)) e.related) (plus_none n)
 own_append n (x ∷ xs) e = ap (λ l. map (λ i. (n, i)) x.related ++ l) (own_append (suc n) xs e ∙ ap (λ k. own_pairs (suc n) xs ++ map (λ i. (k, i)) e.related) (over n (length xs)))
     ∙ sym (append_assoc (map (λ i. (n, i)) x.related) (own_pairs (suc n) xs) (map (λ i. (n + suc (length xs), i)) e.related))
   where
     over : (n k : ℕ) → suc n + k ≡ n + suc k
     over n k = omega arith
 
-long_take : {X : Type 0} (xs : List X) (i : ℕ) → i < length xs → 0 + length (take i xs) ≡ i
-long_take [] i below = absurd (omega arith)
-long_take (x ∷ xs) zero below = refl
-long_take (x ∷ xs) (suc i) below = let h = long_take xs i (omega arith) in omega arith
-
 -- the pairs of one entity more
 pub own_more : (lists : List (List ℕ)) (es : List EntityInfo) (i : ℕ) (e : EntityInfo) → i < length es → e ≡ get_or es i e → fold joined lists (own_pairs 0 (take (i + 1) es)) ≡ fold joined (fold joined lists (own_pairs 0 (take i es))) (map (λ j. (i, j)) e.related)
 own_more lists es i e below is =
     ap (λ l. fold joined lists (own_pairs 0 l)) (take_more es i e below ∙ ap (λ z. take i es ++ z ∷ []) (sym is))
-    ∙ ap (fold joined lists) (own_append 0 (take i es) e ∙ ap (λ k. own_pairs 0 (take i es) ++ map (λ j. (k, j)) e.related) (long_take es i below))
+    ∙ ap (fold joined lists) (own_append 0 (take i es) e ∙ ap (λ k. own_pairs 0 (take i es) ++ map (λ j. (k, j)) e.related) (length_taken es i below))
     ∙ fold-append joined lists (own_pairs 0 (take i es)) (map (λ j. (i, j)) e.related)
 
 -- the pairs of entities, and then those of blocks

@@ -26,17 +26,14 @@ use Rattle.mk_connect.specs.Related.{pairs_of}
 use Rattle.mk_connect.proofs.ByPlaces.{by_place_length}
 use Rattle.mk_connect.proofs.OverLists.{all_of, each_all, pairs_of as over_pairs}
 use Rattle.mk_connect.proofs.Owners.{eid_is, made_at, owner_is}
-use Rattle.mk_connect.proofs.Sound.{same_itself}
-
-not_true : (b : Bool) → not b ≡ true → b ≡ false
-not_true true h = sym h
-not_true false h = refl
+use Rattle.mk_base.proofs.Bools.{not_true}
+use Rattle.mk_base.proofs.Items.{same_text_self}
 
 proper : (eid : List ℕ) → IsTrue (is_eid eid) → (eid ≢ []) × (eid ≢ codes "time")
 proper eid is =
     let t = and_parts (not (same_text eid [])) (not (same_text eid (codes "time"))) is in (
       λ same. true≢false (sym (ap (λ (e : List ℕ). same_text e []) same) ∙ not_true (same_text eid []) t.0),
-      λ same. true≢false (sym (ap (λ (e : List ℕ). same_text e (codes "time")) same ∙ same_itself (codes "time")) ∙ not_true (same_text eid (codes "time")) t.1),
+      λ same. true≢false (sym (ap (λ (e : List ℕ). same_text e (codes "time")) same ∙ same_text_self (codes "time")) ∙ not_true (same_text eid (codes "time")) t.1),
     )
 
 module _ (S : Scenario) (ranks : List ℕ) (metas : List Meta) (es : List EntityInfo) (first_ids : List ℕ) (conns : List Conn) (wellformed : IsWellformed S) (known : IsComplete S ranks metas es first_ids) where

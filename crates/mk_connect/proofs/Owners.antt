@@ -22,7 +22,6 @@ use Rattle.mk_scenario.specs.declared.parts.Place.{Place}
 use Rattle.mk_scenario.specs.declared.parts.Place.TheVariants.{Whole, One, Full}
 use Rattle.mk_scenario.specs.declared.parts.Scenario.{Scenario}
 use Rattle.mk_scenario.specs.declared.parts.SimPart.{SimPart}
-use Rattle.mk_scenario.proofs.ListFacts.{get_map}
 use Rattle.mk_connect.specs.ByPlace.{by_place}
 use Rattle.mk_connect.specs.Complete.{IsOfGroup, IsOfModel, has_model}
 use Rattle.mk_connect.specs.Edges.{sim_at, sim_of_group}
@@ -32,21 +31,11 @@ use Rattle.mk_connect_pairs.specs.Models.{is_model, model_number, models_from, m
 use Rattle.mk_connect.specs.Related.{pairs_of}
 use Rattle.mk_connect_pairs.specs.declared.models.SimModel.{SimModel}
 use Rattle.mk_connect.proofs.ByPlaces.{by_place_get}
-
-no_more : (n : ℕ) → n ≡ n + 0
-no_more n = omega arith
-
-over : (n k : ℕ) → suc n + k ≡ n + suc k
-over n k = omega arith
+use Rattle.mk_base.proofs.Counts.{plus_none, one_over, test_equal, test_itself}
+use Rattle.mk_base.proofs.Items.{get_map}
 
 from_none : (n : ℕ) → 0 + n ≡ n
 from_none n = omega arith
-
-eq_of : (x y : ℕ) → nat_eq x y ≡ true → x ≡ y
-eq_of x y h = grind (arith, h)
-
-itself : (x : ℕ) → nat_eq x x ≡ true
-itself x = grind arith
 
 -- ---- the first that passes
 
@@ -90,8 +79,8 @@ pub record IsModelFrom (n : ℕ) (metas : List Meta) (m : SimModel) : Type 0 whe
 pub model_from : (n : ℕ) (metas : List Meta) (m : SimModel) → IsIn m (models_from n metas) → IsModelFrom n metas m
 model_from n [] m inside = absurd inside
 model_from n (meta ∷ metas) m inside = elim (in_either m (map (sim_model n meta.kind) meta.models) (models_from (suc n) metas) inside) [
-  | inl here ↦ let t = in_map (sim_model n meta.kind) m meta.models here in record { place = 0; meta = meta; said = refl; sim = ap (λ (k : SimModel). k.sim.0) t.2 ∙ no_more n; kind = ap (λ (k : SimModel). k.kind) t.2 }
-  | inr later ↦ let t = model_from (suc n) metas m later in record { place = suc t.place; meta = t.meta; said = t.said; sim = t.sim ∙ over n t.place; kind = t.kind }
+  | inl here ↦ let t = in_map (sim_model n meta.kind) m meta.models here in record { place = 0; meta = meta; said = refl; sim = ap (λ (k : SimModel). k.sim.0) t.2 ∙ plus_none n; kind = ap (λ (k : SimModel). k.kind) t.2 }
+  | inr later ↦ let t = model_from (suc n) metas m later in record { place = suc t.place; meta = t.meta; said = t.said; sim = t.sim ∙ one_over n t.place; kind = t.kind }
 ]
 
 model_in : (n : ℕ) (metas : List Meta) (i : ℕ) (meta : Meta) (m : ModelMeta) → slice_get metas i ≡ Some meta → IsIn m meta.models → IsIn (sim_model (n + i) meta.kind m) (models_from n metas)
@@ -100,10 +89,10 @@ model_in n (x ∷ metas) zero meta m said inside =
     let all = map (sim_model n x.kind) x.models ++ models_from (suc n) metas in
     let here = map_in (sim_model n x.kind) m x.models (subst (λ (y : Meta). IsIn m y.models) (sym (some_same said)) inside) in
     let first = in_front (sim_model n x.kind m) (map (sim_model n x.kind) x.models) (models_from (suc n) metas) here in
-    subst (λ (k : ℕ). IsIn (sim_model k meta.kind m) all) (no_more n) (subst (λ (y : Meta). IsIn (sim_model n y.kind m) all) (some_same said) first)
+    subst (λ (k : ℕ). IsIn (sim_model k meta.kind m) all) (plus_none n) (subst (λ (y : Meta). IsIn (sim_model n y.kind m) all) (some_same said) first)
 model_in n (x ∷ metas) (suc i) meta m said inside =
     let all = map (sim_model n x.kind) x.models ++ models_from (suc n) metas in
-    subst (λ (k : ℕ). IsIn (sim_model k meta.kind m) all) (over n i) (in_back (sim_model (suc n + i) meta.kind m) (map (sim_model n x.kind) x.models) (models_from (suc n) metas) (model_in (suc n) metas i meta m said inside))
+    subst (λ (k : ℕ). IsIn (sim_model k meta.kind m) all) (one_over n i) (in_back (sim_model (suc n + i) meta.kind m) (map (sim_model n x.kind) x.models) (models_from (suc n) metas) (model_in (suc n) metas i meta m said inside))
 
 -- the model of an entity, which is its simulator's
 pub record IsOwned (metas : List Meta) (e : EntityInfo) : Type 0 where
@@ -124,11 +113,11 @@ owned metas e is =
     let t = said_of e.model (slice_get metas e.sim.0) is in
     let m = some_passes (λ (m : ModelMeta). same_text m.name e.model) t.0.models t.2 in
     let there = model_in 0 metas e.sim.0 t.0 m.0 t.1 m.1 in
-    let sim_is : nat_eq (0 + e.sim.0) e.sim.0 ≡ true = ap (λ n. nat_eq n e.sim.0) (from_none e.sim.0) ∙ itself e.sim.0 in
+    let sim_is : nat_eq (0 + e.sim.0) e.sim.0 ≡ true = ap (λ n. nat_eq n e.sim.0) (from_none e.sim.0) ∙ test_itself e.sim.0 in
     let place = passes_somewhere (is_model e.sim e.model) (models_of metas) (sim_model (0 + e.sim.0) t.0.kind m.0) there ((λ i. sim_is i && same_text m.0.name e.model) ∙ m.2) in
     let found = there_passes (is_model e.sim e.model) (models_of metas) place.0 place.1 in
     let from = model_from 0 metas found.0 (at_in found.0 (models_of metas) place.0 found.1) in
-    let own : found.0.sim.0 ≡ e.sim.0 = eq_of found.0.sim.0 e.sim.0 (and_parts (nat_eq found.0.sim.0 e.sim.0) (same_text found.0.name e.model) found.2).0 in
+    let own : found.0.sim.0 ≡ e.sim.0 = test_equal found.0.sim.0 e.sim.0 (and_parts (nat_eq found.0.sim.0 e.sim.0) (same_text found.0.name e.model) found.2).0 in
     let same : from.place ≡ e.sim.0 = sym (from_none from.place) ∙ sym from.sim ∙ own in
     record {
       number = place.0;
@@ -147,12 +136,12 @@ member_is g n [] i inside = absurd inside
 member_is g n (e ∷ es) i inside = at (is_of_group g e) refl inside (λ later. next (member_is g (suc n) es i later))
   where
     next : (k : ℕ) × (f : EntityInfo) × (i ≡ suc n + k) × (slice_get es k ≡ Some f) × (is_of_group g f ≡ true) → (k : ℕ) × (f : EntityInfo) × (i ≡ n + k) × (slice_get (e ∷ es) k ≡ Some f) × (is_of_group g f ≡ true)
-    next t = (suc t.0, t.1, t.2 ∙ over n t.0, t.3, t.4)
+    next t = (suc t.0, t.1, t.2 ∙ one_over n t.0, t.3, t.4)
 
     at : (b : Bool) → is_of_group g e ≡ b → IsIn i (if b then n ∷ members_from g (suc n) es else members_from g (suc n) es)
         → (IsIn i (members_from g (suc n) es) → (k : ℕ) × (f : EntityInfo) × (i ≡ n + k) × (slice_get (e ∷ es) k ≡ Some f) × (is_of_group g f ≡ true))
         → (k : ℕ) × (f : EntityInfo) × (i ≡ n + k) × (slice_get (e ∷ es) k ≡ Some f) × (is_of_group g f ≡ true)
-    at true own (inl same) more = (0, e, same ∙ no_more n, refl, own)
+    at true own (inl same) more = (0, e, same ∙ plus_none n, refl, own)
     at true own (inr later) more = more later
     at false other later more = more later
 
@@ -165,7 +154,7 @@ group_sim groups g e of own = at e.group of own
 
     at : (o : Option ℕ) → IfSome o (λ n. option_map (λ (h : Group). h.sim) (slice_get groups n) ≡ Some e.sim) → unwrap_or (option_map (nat_eq g) o) false ≡ true → sim_of_group groups g ≡ e.sim.0
     at None of own = absurd (true≢false (sym own))
-    at (Some n) of own = ap (sim_of_group groups) (eq_of g n own) ∙ sim_of (slice_get groups n) of
+    at (Some n) of own = ap (sim_of_group groups) (test_equal g n own) ∙ sim_of (slice_get groups n) of
 
 in_option : (i : ℕ) (o : Option ℕ) → IsIn i (cons_option o []) → o ≡ Some i
 in_option i None inside = absurd inside
@@ -184,7 +173,7 @@ end_is groups es (Whole g) i of inside = of_member groups es g i of inside
 end_is groups es (One g n) i of inside = of_member groups es g i of (at_in i (members_from g 0 es) n (in_option i (slice_get (members_from g 0 es) n) inside))
 end_is groups es (Full sim eid) i of inside =
     let t = there_passes (is_named sim eid) es i (in_option i (entity_number es sim eid) inside) in
-    (t.0, t.1, sym (eq_of t.0.sim.0 sim.0 (and_parts (nat_eq t.0.sim.0 sim.0) (same_text t.0.eid eid) t.2).0))
+    (t.0, t.1, sym (test_equal t.0.sim.0 sim.0 (and_parts (nat_eq t.0.sim.0 sim.0) (same_text t.0.eid eid) t.2).0))
 
 -- ---- the plan's parts
 

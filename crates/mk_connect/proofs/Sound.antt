@@ -24,6 +24,9 @@ use Rattle.mk_connect_pairs.specs.Faults.{through}
 use Rattle.mk_connect_pairs.specs.Models.{keeps_attr, model_at, says, triggers_by}
 use Rattle.mk_connect_pairs.proofs.Initials.{initial_in_range, initial_is_datum}
 use Rattle.mk_base.specs.Limits.{most_conns}
+use Rattle.mk_base.proofs.Counts.{test_itself}
+use Rattle.mk_base.proofs.Items.{each_append, same_text_self}
+use Rattle.mk_plan.specs.Plans.{IsOtherWay}
 
 -- ---- what tests that pass say
 
@@ -109,27 +112,12 @@ pub record IsSoundConn (models : List SimModel) (es : List EntityInfo) (blocks :
   pub initial : c.initial ≡ initial_text block.initial c.from_attr
   pub needed : has_initial c.via c.persistent (is_some c.initial) ≡ true
 
--- two connections lead different ways
-abbrev pub Differ : Conn → Conn → Type 0
-Differ c d = c.from ≡ d.from → c.to ≡ d.to → c.to_attr ≢ d.to_attr
-
 pub record AreSoundConns (models : List SimModel) (es : List EntityInfo) (blocks : List Block) (conns : List Conn) : Type 0 where
   pub each : Each (IsSoundConn models es blocks) conns
-  pub apart : Rises Differ conns
+  pub apart : Rises IsOtherWay conns
   pub few : length conns ≤ most_conns
 
-itself : (n : ℕ) → nat_eq n n ≡ true
-itself n = grind arith
-
-pub same_itself : (a : List ℕ) → same_text a a ≡ true
-same_itself [] = refl
-same_itself (x ∷ a) = let h : nat_eq x x ≡ true = itself x in rw h (same_itself a)
-
-each_append : {X : Type 0} (P : X → Type 0) (xs ys : List X) → Each P xs → Each P ys → Each P (xs ++ ys)
-each_append P [] ys h k = k
-each_append P (x ∷ xs) ys h k = (h.0, each_append P xs ys h.1 k)
-
-other_way : (conns : List Conn) (c d : Conn) → not (list_any (is_way c.from c.to c.to_attr) conns) ≡ true → IsIn d conns → Differ d c
+other_way : (conns : List Conn) (c d : Conn) → not (list_any (is_way c.from c.to c.to_attr) conns) ≡ true → IsIn d conns → IsOtherWay d c
 other_way conns c d none inside from to attr = true≢false (sym (passes_some (is_way c.from c.to c.to_attr) d conns inside passes) ∙ not_true (list_any (is_way c.from c.to c.to_attr) conns) none)
   where
     not_true : (b : Bool) → not b ≡ true → b ≡ false
@@ -137,7 +125,7 @@ other_way conns c d none inside from to attr = true≢false (sym (passes_some (i
     not_true false h = refl
 
     passes : is_way c.from c.to c.to_attr d ≡ true
-    passes = (λ i. (nat_eq (from i) c.from) && (nat_eq (to i) c.to) && same_text (attr i) c.to_attr) ∙ (λ i. itself c.from i && itself c.to i && same_itself c.to_attr i)
+    passes = (λ i. (nat_eq (from i) c.from) && (nat_eq (to i) c.to) && same_text (attr i) c.to_attr) ∙ (λ i. test_itself c.from i && test_itself c.to i && same_text_self c.to_attr i)
 
 module _ (sims : List SimPart) (models : List SimModel) (es : List EntityInfo) (blocks : List Block) where
   one_more : (b : Block) (ends : ℕ × ℕ) (old new : List Conn) (pair : AttrPair) → IsIn b blocks → IsIn pair b.attrs → IsIn ends (block_pairs es b) → AreSoundConns models es blocks old → connected sims models es b ends old pair ≡ Ok new → AreSoundConns models es blocks new
@@ -165,7 +153,7 @@ module _ (sims : List SimPart) (models : List SimModel) (es : List EntityInfo) (
           },
           tt,
         );
-        apart = rises_append Differ old (c ∷ []) sound.apart (tt, tt) (λ x y m k. elim k [ inl e ↦ subst (Differ x) (sym e) (other_way old c x fresh.0 m) | inr n ↦ absurd n ]);
+        apart = rises_append IsOtherWay old (c ∷ []) sound.apart (tt, tt) (λ x y m k. elim k [ inl e ↦ subst (IsOtherWay x) (sym e) (other_way old c x fresh.0 m) | inr n ↦ absurd n ]);
         few = let h = below_of (length old) most_conns room.0 in subst (λ n. n ≤ most_conns) (sym (length-append old (c ∷ []))) (omega arith);
       })
     where

@@ -7,7 +7,7 @@ use Rattle.mk_base.proofs.Lists.{in_each}
 use Rattle.mk_plan.specs.declared.Conn.{Conn}
 use Rattle.mk_plan.specs.declared.Plan.{Plan}
 use Rattle.mk_plan.specs.declared.PlanEntity.{PlanEntity}
-use Rattle.mk_plan.specs.Plans.{HasInitialValues, HasOneConnectionEach}
+use Rattle.mk_plan.specs.Plans.{HasInitialValues, HasOneConnectionEach, IsOtherWay}
 use Rattle.mk_meta.specs.declared.meta.Meta.{Meta}
 use Rattle.mk_entities.specs.declared.entities.EntityInfo.{EntityInfo}
 use Rattle.mk_scenario.specs.declared.parts.Scenario.{Scenario}
@@ -18,7 +18,7 @@ use Rattle.mk_connect_pairs.specs.Models.{keeps_attr, model_at, models_of, says,
 use Rattle.mk_connect.specs.Agreeing.{SourcesAgree, TargetsAgree}
 use Rattle.mk_connect_pairs.specs.declared.models.SimModel.{SimModel}
 use Rattle.mk_connect.proofs.OverLists.{each_all, each_pairs, each_then, rises_pairs}
-use Rattle.mk_connect.proofs.Sound.{AreSoundConns, Differ, IsSoundConn, conns_sound, no_member}
+use Rattle.mk_connect.proofs.Sound.{AreSoundConns, IsSoundConn, conns_sound, no_member}
 
 module _ (S : Scenario) (ranks : List ℕ) (metas : List Meta) (es : List EntityInfo) (first_ids : List ℕ) (conns : List Conn) (wellformed : IsWellformed S) (made : conns_made S.sims (models_of metas) es S.blocks ≡ Ok conns) where
   abbrev P : Plan
@@ -29,7 +29,7 @@ module _ (S : Scenario) (ranks : List ℕ) (metas : List Meta) (es : List Entity
 
   -- the third part: each connection goes a way of its own
   pub one_each : HasOneConnectionEach P
-  one_each = rises_pairs Differ conns sound.apart
+  one_each = rises_pairs IsOtherWay conns sound.apart
 
   initial_so : (c : Conn) → IsSoundConn (models_of metas) es S.blocks c → ((d : ℕ) → c.via ≡ Shift d → c.persistent ≡ true → IsSome c.initial) × (c.via ≡ Plain → c.initial ≡ None)
   initial_so c s = (λ d shifted kept. needed d shifted kept, λ plain. s.initial ∙ ap (option_map text_of) (no_member s.block.initial c.from_attr ((in_each (IsWellformedBlock (length S.sims) S.groups) s.block S.blocks wellformed.blocks s.of_scenario).delayed (sym s.via ∙ plain))))

@@ -28,14 +28,3 @@ module _ {A X : Type 0} (step : A → X → Result A ConnectFault) where
     pub through_refused : (e : ConnectFault) → IsFaultOf (step n x) e → IsFaultOf (through step m xs) e
     through_refused e (inl mem) = inl mem
     through_refused e (inr fails) = inr (through_fault e fails)
-
--- the item at a place, whatever stands for one beyond
-pub default_is : {X : Type 0} (xs : List X) (i : ℕ) (d : X) → i < length xs → get_or xs i d ≡ get_or xs i (get_or xs i d)
-default_is [] i d below = absurd (omega arith)
-default_is (x ∷ xs) zero d below = refl
-default_is (x ∷ xs) (suc i) d below = more xs i d (get_or xs i d) (omega arith)
-  where
-    more : {X : Type 0} (xs : List X) (i : ℕ) (d e : X) → i < length xs → get_or xs i d ≡ get_or xs i e
-    more [] i d e below = absurd (omega arith)
-    more (x ∷ xs) zero d e below = refl
-    more (x ∷ xs) (suc i) d e below = more xs i d e (omega arith)

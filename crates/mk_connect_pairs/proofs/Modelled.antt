@@ -7,16 +7,11 @@ use Rattle.mk_meta.specs.declared.meta.Meta.{Meta}
 use Rattle.mk_entities.specs.declared.entities.EntityInfo.{EntityInfo}
 use Rattle.mk_connect_pairs.specs.Models.{model_number, models_from, sim_model}
 use Rattle.mk_connect_pairs.specs.declared.models.SimModel.{SimModel}
-
-no_more : (n : ℕ) → n ≡ n + 0
-no_more n = omega arith
-
-over : (n k : ℕ) → suc n + k ≡ n + suc k
-over n k = omega arith
+use Rattle.mk_base.proofs.Counts.{plus_none, one_over}
 
 pub models_append : (n : ℕ) (xs ys : List Meta) → models_from n (xs ++ ys) ≡ models_from n xs ++ models_from (n + length xs) ys
-models_append n [] ys = ap (λ k. models_from k ys) (no_more n)
-models_append n (x ∷ xs) ys = ap (λ l. map (sim_model n x.kind) x.models ++ l) (models_append (suc n) xs ys ∙ ap (λ k. models_from (suc n) xs ++ models_from k ys) (over n (length xs)))
+models_append n [] ys = ap (λ k. models_from k ys) (plus_none n)
+models_append n (x ∷ xs) ys = ap (λ l. map (sim_model n x.kind) x.models ++ l) (models_append (suc n) xs ys ∙ ap (λ k. models_from (suc n) xs ++ models_from k ys) (one_over n (length xs)))
     ∙ sym (append_assoc (map (sim_model n x.kind) x.models) (models_from (suc n) xs) (models_from (n + suc (length xs)) ys))
 
 -- the models of one simulator more

@@ -13,6 +13,7 @@ use Rattle.mk_base.proofs.AtPlaces.{place_first, place_later, nat_eq_sym, same_s
 use Rattle.mk_connect_pairs.specs.inner.Lookups.{HasNumbers, IsKeyOf, is_key}
 use Rattle.mk_connect_pairs.specs.Models.{is_model}
 use Rattle.mk_connect_pairs.specs.declared.models.SimModel.{SimModel}
+use Rattle.mk_base.proofs.Counts.{test_equal}
 
 abbrev pub or_else : {X : Type 0} → Option X → Option X → Option X
 or_else (Some x) other = Some x
@@ -53,9 +54,6 @@ appended eq test k same (e ∷ es) v none = at (test e.0) refl none (appended eq
     at true is none more = cc
     at false is none more = let other : eq k e.0 ≡ false = same e.0 ∙ is in rw other (ap (λ l. e ∷ l) (more none))
 
-eq_of : (x y : ℕ) → nat_eq x y ≡ true → x ≡ y
-eq_of x y h = grind (arith, h)
-
 key_same : {Y : Type 0} (m : SimModel) (sim : ℕ) (name : List ℕ) (key : ℕ × String Y) → IsKeyOf m.sim.0 m.name key → is_key {Y = Y} sim name key ≡ is_model (record { 0 = sim }) name m
 key_same m sim name key is = (λ i. (nat_eq sim (is.0 i)) && same_text name (is.1 i)) ∙ (λ i. nat_eq_sym sim m.sim.0 i && same_sym name m.name i)
 
@@ -73,7 +71,7 @@ module _ {S Y : Type 0} (models : List SimModel) (m : SimModel) where
     where
       unless_same : nat_eq m.sim.0 sim ≡ true → same_text m.name name ≡ true → is_some (position (is_model (record { 0 = sim }) name) models) ≡ true
       unless_same same_sim same_name = ap is_some (sym (has sim name))
-          ∙ ap (λ s. is_some (lookup (is_key {Y = Y} s name) old.entries)) (sym (eq_of m.sim.0 sim same_sim) ∙ sym is.0)
+          ∙ ap (λ s. is_some (lookup (is_key {Y = Y} s name) old.entries)) (sym (test_equal m.sim.0 sim same_sim) ∙ sym is.0)
           ∙ ap (λ t. is_some (lookup (is_key {Y = Y} key.0 t) old.entries)) (sym ((bytes_eq-Decides m.name name).0 same_name) ∙ sym is.1) ∙ there
 
       at : (b : Bool) → is_model (record { 0 = sim }) name m ≡ b → (r : Option ℕ) → position (is_model (record { 0 = sim }) name) models ≡ r → r ≡ or_else r (if b then Some (length models) else None)

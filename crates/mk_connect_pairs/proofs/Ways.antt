@@ -10,6 +10,7 @@ use Rattle.mk_base.proofs.AtPlaces.{nat_eq_sym, same_sym}
 use Rattle.mk_plan.specs.declared.Conn.{Conn}
 use Rattle.mk_connect_pairs.specs.Connections.{is_way}
 use Rattle.mk_connect_pairs.specs.inner.Lookups.{Way, way_in, way_of}
+use Rattle.mk_base.proofs.Items.{any_same}
 
 -- the way is of these
 abbrev pub is_same_way : Way → Way → Bool
@@ -21,10 +22,6 @@ key_eq a b = nat_eq a.0 b.0 && nat_eq a.1 b.1 && same_text (string_bytes a.2) (s
 pub any_map : {X Y : Type 0} (p : Y → Bool) (f : X → Y) (xs : List X) → list_any p (map f xs) ≡ list_any (λ x. p (f x)) xs
 any_map p f [] = refl
 any_map p f (x ∷ xs) = ap (λ b. p (f x) || b) (any_map p f xs)
-
-pub any_same : {X : Type 0} (p q : X → Bool) → ((x : X) → p x ≡ q x) → (xs : List X) → list_any p xs ≡ list_any q xs
-any_same p q same [] = refl
-any_same p q same (x ∷ xs) = λ i. same x i || any_same p q same xs i
 
 module _ {Y : Type 0} (keys : List (ℕ × ℕ × String Y)) (conns : List Conn) (are : map (way_in {Y = Y}) keys ≡ map way_of conns) where
   -- a way is among the keys where a connection has it

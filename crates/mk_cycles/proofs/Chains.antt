@@ -6,11 +6,6 @@ use Rattle.mk_base.proofs.Lists.{some_same, none_some, in_front, in_back, in_eit
 use Rattle.mk_base.specs.Lists.{Each, IsIn}
 use Rattle.mk_cycles.specs.Edges.{IsChain}
 
--- one item more
-pub each_push : {X : Type 0} (P : X → Type 0) (xs : List X) (x : X) → Each P xs → P x → Each P (xs ++ x ∷ [])
-each_push P [] x each here = (here, tt)
-each_push P (y ∷ xs) x (first, each) here = (first, each_push P xs x each here)
-
 -- the last item first
 reverse-cons : (x : ℕ) (xs : List ℕ) → reverse (x ∷ xs) ≡ reverse xs ++ x ∷ []
 reverse-cons x xs = reverse-append (x ∷ []) xs

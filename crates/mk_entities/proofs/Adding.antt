@@ -17,11 +17,9 @@ use Rattle.mk_entities.specs.inner.Making.{fault_at, first_fault, made_by, named
 use Rattle.mk_entities.specs.inner.Tied.{numbered}
 use Rattle.mk_entities.proofs.Lookups.{number_is}
 use Rattle.mk_entities.proofs.Numbers.{put_is_filter}
+use Rattle.mk_base.proofs.Counts.{same_self}
 
 -- ---- numbered entities
-
-pub own : (n : ℕ) → (n == n) ≡ true
-own n = grind arith
 
 pub numbered_append : (s n : ℕ) (xs ys : List EntityInfo) → numbered s n (xs ++ ys) ≡ numbered s n xs ++ numbered s (n + length xs) ys
 numbered_append s n [] ys = ap (λ k. numbered s k ys) (add_none n)
@@ -42,7 +40,7 @@ module _ (sim : SimNo) (make : Described → EntityInfo) (own_sim : (e : Describ
   pub numbered_own : (n : ℕ) (es : List Described) → numbered sim.0 n (map make es) ≡ named_from n es
   numbered_own n [] = refl
   numbered_own n (e ∷ es) =
-      let same : ((make e).sim.0 == sim.0) ≡ true = ap (λ s. s == sim.0) (own_sim e) ∙ own sim.0 in
+      let same : ((make e).sim.0 == sim.0) ≡ true = ap (λ s. s == sim.0) (own_sim e) ∙ same_self sim.0 in
       rw same (λ i. (own_eid e i, n) ∷ numbered_own (suc n) es i)
 
   pub numbered_other : (s n : ℕ) (es : List Described) → (sim.0 == s) ≡ false → numbered s n (map make es) ≡ []

@@ -17,9 +17,11 @@ use Rattle.mk_entities.specs.Creation.{entity_fault, first_there, after_text, ha
 use Rattle.mk_entities.specs.inner.Making.{fault_at, first_fault, named_from, number_in}
 use Rattle.mk_entities.specs.Tied.{AreFirst}
 use Rattle.mk_entities.specs.inner.Tied.{numbered}
-use Rattle.mk_entities.proofs.Adding.{numbered_append, numbered_own, own}
+use Rattle.mk_entities.proofs.Adding.{numbered_append, numbered_own}
 use Rattle.mk_entities.proofs.Lookups.{number_is}
 use Rattle.mk_base.specs.Limits.{most_entities}
+use Rattle.mk_base.proofs.Items.{same_text_self}
+use Rattle.mk_base.proofs.Counts.{same_self}
 
 -- ---- where no test fails
 
@@ -98,10 +100,6 @@ parted [] n x is = absurd (none_some is)
 parted (z ∷ xs) zero x is = (omega arith, ap (λ y. y ∷ xs) (some_same is))
 parted (z ∷ xs) (suc n) x is = let t = parted xs n x is in (omega (arith, t.0), ap (λ l. z ∷ l) t.1)
 
-same_itself : (a : List ℕ) → same_text a a ≡ true
-same_itself [] = refl
-same_itself (x ∷ a) = let h : nat_eq x x ≡ true = grind arith in rw h (same_itself a)
-
 module _ (old : List EntityInfo) (sim : SimNo) (model : List ℕ) (meta : Meta) (es : List Described) (make : Described → EntityInfo)
     (own_sim : (e : Described) → (make e).sim ≡ sim) (own_eid : (e : Described) → (make e).eid ≡ unwrap_or e.eid []) (found_old : AreFirst old)
     (passed : first_fault (numbered sim.0 0 old) (length old) model meta es ≡ None) where
@@ -121,8 +119,8 @@ module _ (old : List EntityInfo) (sim : SimNo) (model : List ℕ) (meta : Meta) 
 
   own_passes : (e : Described) → is_named sim (unwrap_or e.eid []) (make e) ≡ true
   own_passes e =
-      let sim_is : ((make e).sim.0 == sim.0) ≡ true = ap (λ (s : SimNo). s.0 == sim.0) (own_sim e) ∙ own sim.0 in
-      let eid_is : same_text (make e).eid (unwrap_or e.eid []) ≡ true = ap (λ t. same_text t (unwrap_or e.eid [])) (own_eid e) ∙ same_itself (unwrap_or e.eid []) in
+      let sim_is : ((make e).sim.0 == sim.0) ≡ true = ap (λ (s : SimNo). s.0 == sim.0) (own_sim e) ∙ same_self sim.0 in
+      let eid_is : same_text (make e).eid (unwrap_or e.eid []) ≡ true = ap (λ t. same_text t (unwrap_or e.eid [])) (own_eid e) ∙ same_text_self (unwrap_or e.eid []) in
       rw sim_is eid_is
 
   made_found : (n : ℕ) (e : Described) → slice_get es n ≡ Some e → entity_number (old ++ map make es) sim (unwrap_or e.eid []) ≡ Some (length old + n)

@@ -5,7 +5,7 @@ use Rattle.std.specs.List.{find, filter_map, cons_option}
 use Rattle.std.proofs.lemmas.List.{take_more}
 use Rattle.mk_base.specs.declared.json.Json.{Json, Json-F, out-Json, map-Json}
 use Rattle.mk_base.specs.Lists.{IsIn, same_text, value_under}
-use Rattle.mk_base.specs.Trees.{member, nesting, nesting_step, deepest}
+use Rattle.mk_base.specs.Trees.{member, nesting, nesting_step, deepest, members_at}
 use Rattle.mk_base.proofs.FoldsAgree.{folded_out}
 use Rattle.mk_base.proofs.Lists.{none_some, some_same, append_nil}
 use Rattle.mk_meta.specs.Metadata.{unless_missing}
@@ -29,14 +29,10 @@ value_nests (m ∷ ms) name v is = at (same_text m.0 name) is (value_nests ms na
     at true is more = subst (λ z. nesting z ≤ max (nesting m.1) (deepest (map (λ (m : List ℕ × ℕ). m.1) (map (λ (m : List ℕ × Json). (m.0, nesting m.1)) ms)))) (some_same is) (omega arith)
     at false is more = let h = more is in omega arith
 
-abbrev layer_members : Json-F Json → Option (List (List ℕ × Json))
-layer_members (Json-F.Object ms) = Some ms
-layer_members _ = None
-
 member_nests : (tree v : Json) (name : List ℕ) → member name tree ≡ Some v → nesting v < nesting tree
 member_nests tree v name is = subst (λ n. nesting v < n) (sym (folded_out ℕ nesting_step tree)) (at (out-Json tree) is)
   where
-    at : (l : Json-F Json) → option_and_then (value_under name) (layer_members l) ≡ Some v → nesting v < nesting_step (map-Json Json ℕ nesting l)
+    at : (l : Json-F Json) → option_and_then (value_under name) (members_at l) ≡ Some v → nesting v < nesting_step (map-Json Json ℕ nesting l)
     at Json-F.Null is = absurd (none_some is)
     at (Json-F.Bool b) is = absurd (none_some is)
     at (Json-F.Whole n) is = absurd (none_some is)

@@ -7,6 +7,7 @@ use Rattle.mk_entities.specs.declared.described.Described.{Described}
 use Rattle.std.specs.List.{range_with_len}
 use Rattle.mk_entities.specs.Creation.{entity_fault, first_there}
 use Rattle.mk_entities.specs.inner.Making.{fault_at, named_from, number_in}
+use Rattle.mk_base.proofs.Items.{get_at_place}
 
 module _ {X : Type 0} where
   pub skip_none : (xs ys : List (Option X)) → first_there xs ≡ None → first_there (xs ++ ys) ≡ first_there ys
@@ -40,11 +41,6 @@ module _ {X : Type 0} (f : ℕ → Option X) where
 
 -- ---- the tests of a reply's entities, one after the other
 
-at_place : {X : Type 0} (xs : List X) (i : ℕ) (x : X) → i < length xs → x ≡ get_or xs i x → slice_get xs i ≡ Some x
-at_place [] i x below is = absurd (omega arith)
-at_place (y ∷ xs) zero x below is = ap Some (sym is)
-at_place (y ∷ xs) (suc i) x below is = at_place xs i x (omega arith) is
-
 named_append : (n : ℕ) (xs ys : List Described) → named_from n (xs ++ ys) ≡ named_from n xs ++ named_from (n + length xs) ys
 named_append n [] ys = ap (λ k. named_from k ys) (add_none n)
   where
@@ -77,5 +73,5 @@ module _ (count : ℕ) (es : List Described) (n : ℕ) (e : Described) (below : 
 
   -- the test of the n-th entity
   pub fault_here : (names now : List (List ℕ × ℕ)) (model : List ℕ) (meta : Meta) → now ≡ names ++ named_from count (take n es) → fault_at names count model meta es n ≡ entity_fault (number_in now) (count + n) model meta n e
-  fault_here names now model meta named = ap (option_and_then (entity_fault (number_in (names ++ named_from count (take n es))) (count + n) model meta n)) (at_place es n e below is)
+  fault_here names now model meta named = ap (option_and_then (entity_fault (number_in (names ++ named_from count (take n es))) (count + n) model meta n)) (get_at_place es n e below is)
       ∙ ap (λ ns. entity_fault (number_in ns) (count + n) model meta n e) (sym named)

@@ -7,6 +7,7 @@ use Rattle.std.specs.declared.cmp.Ordering.TheVariants.{Less, Equal, Greater}
 use Rattle.std.specs.BTreeSet.{insert_key}
 use Rattle.mk_entities.specs.Creation.{has_number}
 use Rattle.mk_entities.specs.inner.Making.{with_numbers}
+use Rattle.mk_base.proofs.Bools.{or_false, or_true}
 
 less : (x y : ℕ) → x < y → nat_cmp x y ≡ Less
 less x y h = grind arith
@@ -22,17 +23,6 @@ other x y h = grind arith
 
 other_below : (x y : ℕ) → x < y → nat_eq x y ≡ false
 other_below x y h = grind arith
-
-itself : (x : ℕ) → nat_eq x x ≡ true
-itself x = grind arith
-
-or_false : (b : Bool) → (b || false) ≡ b
-or_false true = refl
-or_false false = refl
-
-or_true : (b : Bool) → (b || true) ≡ true
-or_true true = refl
-or_true false = refl
 
 -- a number before all of them goes first
 first : (p : ℕ → Bool) (k a n : ℕ) → k < a → insert_key nat_cmp (filter p (range_with_len a n)) k ≡ k ∷ filter p (range_with_len a n)

@@ -25,6 +25,7 @@ use Rattle.mk_entities.specs.inner.Making.{fault_at, first_fault, named_from, nu
 use Rattle.mk_entities.specs.Sound.{AreSound, IsSound}
 use Rattle.mk_entities.proofs.Distinct.{none_at}
 use Rattle.mk_base.specs.Limits.{most_entities}
+use Rattle.mk_base.proofs.Items.{each_append, get_below, at_each}
 
 -- ---- eids that are described
 
@@ -46,10 +47,6 @@ described_named is_child tree text is = at (is_some (list_under (codes "children
     at : (b : Bool) → (if b then option_and_then if_eid (option_and_then text_in (member (codes "eid") tree)) else None) ≡ Some text → IsTrue (is_eid text)
     at true same = eid_is (option_and_then text_in (member (codes "eid") tree)) text same
     at false same = absurd (none_some same)
-
-each_append : {X : Type 0} (P : X → Type 0) (xs ys : List X) → Each P xs → Each P ys → Each P (xs ++ ys)
-each_append P [] ys h k = k
-each_append P (x ∷ xs) ys h k = (h.0, each_append P xs ys h.1 k)
 
 each_flat : {X Y : Type 0} (P : Y → Type 0) (f : X → List Y) (xs : List X) → ((x : X) → Each P (f x)) → Each P (flat_map f xs)
 each_flat P f [] h = tt
@@ -76,20 +73,10 @@ each_at : {X : Type 0} (P : X → Type 0) (xs : List X) → ((n : ℕ) (x : X) �
 each_at P [] h = tt
 each_at P (x ∷ xs) h = (h zero x refl, each_at P xs (λ n y is. h (suc n) y is))
 
-at_each : {X : Type 0} (P : X → Type 0) (xs : List X) (n : ℕ) (x : X) → Each P xs → slice_get xs n ≡ Some x → P x
-at_each P [] n x h is = absurd (none_some is)
-at_each P (y ∷ ys) zero x h is = subst P (some_same is) h.0
-at_each P (y ∷ ys) (suc n) x h is = at_each P ys n x h.1 is
-
-there : {X : Type 0} (xs : List X) (n : ℕ) (x : X) → slice_get xs n ≡ Some x → n < length xs
-there [] n x is = absurd (none_some is)
-there (y ∷ ys) zero x is = omega arith
-there (y ∷ ys) (suc n) x is = let h = there ys n x is in omega arith
-
 pub eids_there : (names : List (List ℕ × ℕ)) (count : ℕ) (model : List ℕ) (meta : Meta) (es : List Described) → first_fault names count model meta es ≡ None → Each IsNamed es → Each (λ e. IsTrue (is_eid (unwrap_or e.eid []))) es
 eids_there names count model meta es passed named = each_at (λ e. IsTrue (is_eid (unwrap_or e.eid []))) es (λ n e is.
     let number = number_in (names ++ named_from count (take n es)) in
-    let below = there es n e is in
+    let below = get_below es n e is in
     let none = none_at (fault_at names count model meta es) 0 (length es) n passed (omega arith) (omega arith) in
     eid_there number (count + n) model meta n e (ap (option_and_then (entity_fault number (count + n) model meta n)) (sym is) ∙ none) (at_each IsNamed es n e named is))
 

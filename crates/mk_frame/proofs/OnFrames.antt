@@ -109,7 +109,7 @@ not_prefix payload other allowed fits (more, some, begins) =
     omega (arith, ap length same.1)
 
 -- the frames of more payloads
-frames_of-append : (given more : List (List ℕ)) → frames_of (given ++ more) ≡ frames_of given ++ frames_of more
+pub frames_of-append : (given more : List (List ℕ)) → frames_of (given ++ more) ≡ frames_of given ++ frames_of more
 frames_of-append [] more = refl
 frames_of-append (payload ∷ given) more =
     ap (λ f. frame_of payload ++ f) (frames_of-append given more) ∙ sym (append_assoc (frame_of payload) (frames_of given) (frames_of more))
@@ -160,3 +160,6 @@ taken buffer old held new payload given n same is allowed there header taking le
     let rest_is : new ≡ drop (4 + n) held =
     leaving ∙ sym (drop-drop (4 + n) given buffer) ∙ ap (drop (4 + n)) (is ∙ sym same) in
     (subst (λ (p : List ℕ). length p ≤ limit) (sym payload_is) first.0, sym same ∙ first.1 ∙ ap (λ p. frame_of p ++ drop (4 + n) held) (sym payload_is) ∙ ap (λ r. frame_of payload ++ r) (sym rest_is))
+
+pub frames_of-push : (payloads : List (List ℕ)) (payload : List ℕ) → frames_of (payloads ++ payload ∷ []) ≡ frames_of payloads ++ frame_of payload
+frames_of-push payloads payload = frames_of-append payloads (payload ∷ []) ∙ ap (λ f. frames_of payloads ++ f) (append-nil (frame_of payload))

@@ -39,6 +39,7 @@ use Rattle.mk_json.proofs.OfOutlines.{outlined, outline-Null, outline-Bool, outl
 use Rattle.mk_json.proofs.Compact.{text_of-is, quoted-is, member_texts}
 use Rattle.mk_json.proofs.Values.{parsed_is, nesting-more, nesting-more_members}
 use Rattle.mk_json.proofs.Layers.{Held, trees, members, Steps, by_layers, folded-Null, folded-Bool, folded-Whole, folded-Odd, folded-Text, folded-List, folded-Object}
+use Rattle.mk_base.proofs.Bools.{less_is}
 
 -- ---- numbers
 
@@ -100,11 +101,6 @@ IsAfter-joined l k d (member m e ms) h g = (h.0, IsAfter-joined l k d ms h.1 g)
 abbrev AreAfter : List (List ℕ) → Members → Type 0
 AreAfter [] found = ⊤
 AreAfter (k ∷ ks) found = IsAfter k found × AreAfter ks found
-
-less_is : (o : Ordering) → is_lt o ≡ true → o ≡ Less
-less_is Less e = refl
-less_is Equal e = absurd (true≢false (sym e))
-less_is Greater e = absurd (true≢false (sym e))
 
 turned : (k l : List ℕ) → slice_cmp nat_cmp k l ≡ Less → slice_cmp nat_cmp l k ≡ Greater
 turned k l e = nat_list_cmp_total.antisymm l k ∙ ap ordering_reverse e

@@ -11,25 +11,14 @@ use Rattle.json.specs.Tree.{json_tokens, items_tokens, members_tokens}
 use Rattle.serde_json.proofs.OnLiterals.{serde_json_on_literals}
 use Rattle.mk_base.specs.declared.json.Json as tree
 use Rattle.mk_base.specs.declared.json.Json.{Json}
-use Rattle.mk_base.specs.Texts.{quoted, text_of}
+use Rattle.mk_base.specs.Texts.{quoted, text_of, escaped}
 use Rattle.mk_json.specs.inner.Outline.{outline, items_in, members_in}
 use Rattle.mk_json.proofs.OfOutlines.{outlined, outline-Null, outline-Bool, outline-Whole, outline-Odd, outline-Text, outline-List, outline-Object}
 use Rattle.mk_json.proofs.Layers.{Held, trees, members, Steps, by_layers, folded-Null, folded-Bool, folded-Whole, folded-Odd, folded-Text, folded-List, folded-Object}
 
 -- ---- a text in quotes
 
-abbrev hex : ℕ → ℕ
-hex n = if nat_lt n 10 then 48 + n else (87 + n)
-
--- what stands for a byte within quotes
-abbrev byte_text : ℕ → List ℕ
-byte_text b = if b == 34 then 92 ∷ 34 ∷ [] else if b == 92 then 92 ∷ 92 ∷ [] else if b == 8 then codes "\\b" else if b == 9 then codes "\\t" else if b == 10 then codes "\\n"
-    else if b == 12 then codes "\\f" else if b == 13 then codes "\\r" else if nat_lt b 32 then codes "\\u00" ++ hex (b / 16) ∷ hex (b % 16) ∷ [] else (b ∷ [])
-
-quoted_bytes : (s : List ℕ) → quoted s ≡ 34 ∷ flat_map byte_text s ++ 34 ∷ []
-quoted_bytes s = refl
-
-escape_byte-is : (b : ℕ) → escape_byte b ≡ byte_text b
+escape_byte-is : (b : ℕ) → escape_byte b ≡ escaped b
 unfolding serde_json_on_literals escape_byte
 escape_byte-is b = elim (cases_eq b 34) [
   | inl e ↦ rw e refl
@@ -54,7 +43,7 @@ escape_byte-is b = elim (cases_eq b 34) [
   ]
 ]
 
-escape-is : (s : List ℕ) → print.escape s ≡ flat_map byte_text s
+escape-is : (s : List ℕ) → print.escape s ≡ flat_map escaped s
 escape-is [] = refl
 escape-is (b ∷ s) = ap₂ (λ (x y : List ℕ). x ++ y) (escape_byte-is b) (escape-is s)
 

@@ -67,11 +67,6 @@ rises_from zero (x ∷ []) m n h e f less s = absurd (omega (arith, h))
 rises_from zero (x ∷ y ∷ ms) m n h e f less s = one_before x y ms (sym (ap₂ (λ (a b : Entry). slice_cmp nat_cmp a.0 b.0) e f) ∙ less) s
 rises_from (suc i) (x ∷ ms) m n h e f less s = rises_from i ms m n (omega (arith, h)) e f less s
 
-pub less_from : (o : Ordering) → is_lt o ≡ true → o ≡ Less
-less_from Less h = refl
-less_from Equal h = absurd (true≢false (sym h))
-less_from Greater h = absurd (true≢false (sym h))
-
 -- ---- in a map
 
 named-chosen : (o : Ordering) (a b c : List (String Global × Json)) → named (match_ordering o a b c) ≡ match_ordering o (named a) (named b) (named c)
@@ -99,7 +94,3 @@ named-append (e ∷ es) fs = ap (λ (l : List Entry). by_bytes e ∷ l) (named-a
 -- where nothing is left all is done
 pub all_done : {X : Type 0} (all done left : List X) → all ≡ done ++ left → left ≡ [] → all ≡ done
 all_done all done left e none = e ∙ ap (λ l. done ++ l) none ∙ append-nil done
-
-pub none_left : {X : Type 0} (xs : List X) (n : ℕ) → n ≡ length xs → n ≡ 0 → xs ≡ []
-none_left [] n count none = refl
-none_left (x ∷ xs) n count none = absurd (omega (arith, count, none))

@@ -5,14 +5,7 @@ use Rattle.std.proofs.lemmas.Bool.Decides.{nat_tests}
 use Rattle.std.specs.List.{list_all}
 use Rattle.mk_base.specs.Texts.{escaped, quoted}
 use Rattle.mk_json.specs.inner.Quotes.{stands_so}
-
-first_of : (a b : Bool) → (a && b) ≡ true → a ≡ true
-first_of true b e = refl
-first_of false b e = e
-
-rest_of : (a b : Bool) → (a && b) ≡ true → b ≡ true
-rest_of true b e = e
-rest_of false b e = absurd (true≢false (sym e))
+use Rattle.mk_base.proofs.Bools.{first_holds, second_holds}
 
 abbrev IsFree : ℕ → Type 0
 IsFree b = (32 ≤ b) × (b ≡ 34 → ⊥) × (b ≡ 92 → ⊥)
@@ -28,7 +21,7 @@ stands b f = rw (ne_eqb b 34 f.1, ne_eqb b 92 f.2, ne_eqb b 8 (λ e. omega arith
 
 all_stand : (text : List ℕ) → list_all stands_so text ≡ true → flat_map escaped text ≡ text
 all_stand [] h = refl
-all_stand (b ∷ text) h = ap₂ (λ (x y : List ℕ). x ++ y) (stands b (is_free b (first_of _ _ h))) (all_stand text (rest_of _ _ h))
+all_stand (b ∷ text) h = ap₂ (λ (x y : List ℕ). x ++ y) (stands b (is_free b (first_holds _ _ h))) (all_stand text (second_holds _ _ h))
 
 -- bytes with the text behind them, a quote on each side
 pub within_quotes : (old text : List ℕ) → list_all stands_so text ≡ true → ((old ++ 34 ∷ []) ++ text) ++ 34 ∷ [] ≡ old ++ quoted text

@@ -23,6 +23,7 @@ use Rattle.mk_json.specs.Parsed as made
 use Rattle.mk_json.specs.Parsed.{tree_of, parsed}
 use Rattle.mk_json.proofs.LevelTests.{range-List, range-Object}
 use Rattle.mk_json.proofs.Layers.{folded-Null, folded-Bool, folded-Whole, folded-Odd, folded-Text, folded-List, folded-Object}
+use Rattle.mk_base.proofs.Counts.{pos_in_range}
 
 -- ---- nesting
 
@@ -76,9 +77,6 @@ float_fits sign p false = tt
 chosen : (b : Bool) (n : Num) (rest : Option Num) → (b ≡ true → number_fits n ≡ true) → Fits number_fits rest → Fits number_fits (if b then Some n else rest)
 chosen true n rest h k = h refl
 chosen false n rest h k = k
-
-pos_in_range : (n : ℕ) → n < 2 ^ 64 → in_range (pos n) ≡ true
-pos_in_range n h = grind (arith, ints)
 
 negative_in_range : (n : ℕ) → 0 < n → n ≤ 2 ^ 63 → in_range (with_sign true n) ≡ true
 negative_in_range zero h k = absurd (omega arith)

@@ -16,6 +16,7 @@ use Rattle.mk_launch.specs.Marks.{Mark, mark_of, marks}
 use Rattle.mk_launch.specs.Marks.Sign.{Byte, Address}
 use Rattle.mk_launch.specs.Marks.Mark.{Space, Quote, Plain}
 use Rattle.mk_launch.specs.inner.Steps.{front_of}
+use Rattle.mk_base.proofs.Bools.{neither_holds}
 
 -- the byte stands for itself
 pub record IsPlain (b : ℕ) : Type 0 where
@@ -36,10 +37,6 @@ letter_is_plain c e = elim (c == 32) as (λ t. (c == 32) ≡ t → cond t front.
   ] refl h
 ] refl e
 
-neither : (a b : Bool) → (a || b) ≡ false → (a ≡ false) × (b ≡ false)
-neither true b e = absurd (true≢false e)
-neither false b e = (refl, e)
-
 none_of : (a b : Bool) → a ≡ false → b ≡ false → (a || b) ≡ false
 none_of true b first second = absurd (true≢false first)
 none_of false b first second = second
@@ -53,7 +50,7 @@ not_byte c b k ascii low apart = elim (b == k) as (λ t. (b == k) ≡ t → t �
 -- a byte of a character's, if the character stands for itself
 byte_is_plain : (c b : ℕ) → IsPlain c → (b < 128 → c ≡ b) → IsPlain b
 byte_is_plain c b plain low =
-    let two = neither (c == 34) (c == 39) plain.quote in
+    let two = neither_holds (c == 34) (c == 39) plain.quote in
     record {
       space = not_byte c b 32 (omega arith) low plain.space;
       quote = none_of (b == 34) (b == 39) (not_byte c b 34 (omega arith) low two.0) (not_byte c b 39 (omega arith) low two.1);

@@ -79,7 +79,7 @@ without_lower link (x ∷ xs) (first, others) =
     let other : same_link x link ≡ false = grind (arith, nat_tests) in
     ap (λ (t : Bool). cond (not t) (x ∷ without link xs) (without link xs)) other ∙ ap (λ t. x ∷ t) (without_lower link xs others)
 
-without_itself : (link : LinkNo) → without link (link ∷ []) ≡ []
+pub without_itself : (link : LinkNo) → without link (link ∷ []) ≡ []
 without_itself link = let same : same_link link link ≡ true = grind (arith, nat_tests) in ap (λ (t : Bool). cond (not t) (link ∷ []) []) same
 
 given_number : (n : ℕ) (link : LinkNo) (b : Begin) → Some link ≡ place_of n b → link.0 ≡ n

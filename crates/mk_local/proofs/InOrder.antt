@@ -17,7 +17,7 @@ use Rattle.mk_local.specs.Simulators.{Simulator}
 use Rattle.mk_local.specs.Steps.{after_step, step_content}
 use Rattle.mk_local.proofs.Replied.{data_replies, step_replies}
 
-abbrev next_id : Simulator → ℕ → Item → ℕ
+abbrev pub next_id : Simulator → ℕ → Item → ℕ
 next_id L id item = cond (is_some (item_reply L id item)) (id + 1) id
 
 -- an item takes an id where it gets a reply
@@ -35,16 +35,16 @@ replies_append L id (item ∷ before) more =
     ∙ sym (append_assoc (option_to_list (item_reply L id item)) (replies (after_item L item) (next_id L id item) before) (replies (after_items (after_item L item) before) (id_after (next_id L id item) before) more))
     ∙ ap (λ n. replies L id (item ∷ before) ++ replies (after_items L (item ∷ before)) n more) (one_id L id item before)
 
-last_is : (ms : List Message) (m : Message) → last_of (ms ++ m ∷ []) ≡ Some m
-last_is [] m = refl
-last_is (n ∷ []) m = refl
-last_is (n ∷ k ∷ ms) m = last_is (k ∷ ms) m
+pub last_behind : (ms : List Message) (m : Message) → last_of (ms ++ m ∷ []) ≡ Some m
+last_behind [] m = refl
+last_behind (n ∷ []) m = refl
+last_behind (n ∷ k ∷ ms) m = last_behind (k ∷ ms) m
 
 -- the last message is the reply to the last item
-last_reply : (L : Simulator) (id : ℕ) (before : List Item) (item : Item) (m : Message) → item_reply (after_items L before) (id_after id before) item ≡ Some m → last_of (replies L id (before ++ item ∷ [])) ≡ Some m
+pub last_reply : (L : Simulator) (id : ℕ) (before : List Item) (item : Item) (m : Message) → item_reply (after_items L before) (id_after id before) item ≡ Some m → last_of (replies L id (before ++ item ∷ [])) ≡ Some m
 last_reply L id before item m is =
     ap (λ (l : List Message). last_of l) (replies_append L id before (item ∷ []) ∙ ap (λ (o : Option Message). replies L id before ++ (option_to_list o ++ [])) is)
-    ∙ last_is (replies L id before) m
+    ∙ last_behind (replies L id before) m
 
 -- what a plan asks of a simulator stays, whatever it is sent
 fits_on : (P : Plan) (i : ℕ) (L : Simulator) (item : Item) → Fits P i L → Fits P i (after_item L item)

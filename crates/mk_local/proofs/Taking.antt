@@ -12,18 +12,11 @@ use Rattle.mk_local.specs.Data.{place_named}
 use Rattle.mk_local.specs.Inputs.{added, is_input_of, seen, sum_of, takes}
 use Rattle.mk_local.specs.inner.Inputs.{AreTaken, taken_at}
 use Rattle.mk_local.proofs.Places.{found, named}
+use Rattle.mk_base.proofs.Bools.{both_hold, or_false, or_true}
 
 fold_append : {A X : Type 0} (f : A → X → A) (a : A) (xs ys : List X) → fold f a (xs ++ ys) ≡ fold f (fold f a xs) ys
 fold_append f a [] ys = refl
 fold_append f a (x ∷ xs) ys = fold_append f (f a x) xs ys
-
-or_false : (a : Bool) → (a || false) ≡ a
-or_false true = refl
-or_false false = refl
-
-or_true : (a : Bool) → (a || true) ≡ true
-or_true true = refl
-or_true false = refl
 
 module _ (T : Turn) (before : List Input) (i : Input) where
   abbrev more : List Input
@@ -100,10 +93,6 @@ none_yet T count all is k below =
 
 -- the entity whose input an input is
 
-both : (a b : Bool) → (a && b) ≡ true → (a ≡ true) × (b ≡ true)
-both true b e = (refl, e)
-both false b e = absurd (true≢false (sym e))
-
 module _ (T : Turn) (i : Input) where
   pub owner : (count k : ℕ) → takes T i.attr ≡ true → place_named count i.eid ≡ Some k → (k < count) × (is_input_of T (decimal k) i ≡ true)
   owner count k taken is =
@@ -112,7 +101,7 @@ module _ (T : Turn) (i : Input) where
 
   pub only : (count k : ℕ) → count < 2 ^ 64 → k < count → is_input_of T (decimal k) i ≡ true → (takes T i.attr ≡ true) × (place_named count i.eid ≡ Some k)
   only count k fits below is =
-      let t = both (same_text i.eid (decimal k)) (takes T i.attr) is in
+      let t = both_hold (same_text i.eid (decimal k)) (takes T i.attr) is in
       (t.1, named i.eid count k below fits ((bytes_eq-Decides (decimal k) i.eid).1 (sym ((bytes_eq-Decides i.eid (decimal k)).0 t.0))))
 
   -- the place that is found, or not

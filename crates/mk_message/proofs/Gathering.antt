@@ -8,6 +8,8 @@ use Rattle.mk_plan.specs.Report.{inputs_text}
 use Rattle.mk_plan.specs.declared.Input.{Input}
 use Rattle.mk_message.specs.inner.Streams.{Stream, rest_of, keyed, source_member, by_source, by_attribute, by_entity, attributes, wanted_by_entity}
 use Rattle.mk_message.specs.Written.{joined, gathered, wanted_text}
+use Rattle.mk_base.proofs.Items.{map_map}
+use Rattle.mk_base.proofs.Guessing.{text_is}
 
 -- the pieces, each behind a comma
 abbrev behind : List (List ℕ) → List ℕ
@@ -38,16 +40,6 @@ module _ {X : Type 0} (piece : X → List ℕ) (open_ close : List ℕ) where
 
 -- ---- one level around another
 
-same_text-true : (a b : List ℕ) → same_text a b ≡ true → a ≡ b
-same_text-true [] [] e = refl
-same_text-true [] (y ∷ b) e = absurd (true≢false (sym e))
-same_text-true (x ∷ a) [] e = absurd (true≢false (sym e))
-same_text-true (x ∷ a) (y ∷ b) e = let p = and_parts (nat_eq x y) (same_text a b) e in ap₂ (λ (z : ℕ) (l : List ℕ). z ∷ l) (eqb-true x y p.0) (same_text-true a b p.1)
-
-map_map : {X Y Z : Type 0} (f : Y → Z) (g : X → Y) (xs : List X) → map f (map g xs) ≡ map (λ x. f (g x)) xs
-map_map f g [] = refl
-map_map f g (x ∷ xs) = ap (λ l. f (g x) ∷ l) (map_map f g xs)
-
 regroup_next : (last name first more groups close : List ℕ) → last ++ (((44 ∷ (name ++ (first ++ more))) ++ groups) ++ close) ≡ (((last ++ 44 ∷ []) ++ name) ++ first) ++ (more ++ (groups ++ close))
 regroup_next last name first more groups close = simp append_assoc
 
@@ -77,7 +69,7 @@ module _ {X : Type 0} (key : X → List ℕ) (value : List X → List ℕ) (S : 
   begins_joined p x xs true e more groups is rest = record {
     more = x ∷ more;
     groups = groups;
-    is = ap (joined key p) is ∙ ap (λ b. if b then (key x, p ∷ x ∷ more) ∷ groups else ((key p, p ∷ []) ∷ (key x, x ∷ more) ∷ groups)) e ∙ ap (λ k. (k, p ∷ x ∷ more) ∷ groups) (sym (same_text-true (key p) (key x) e));
+    is = ap (joined key p) is ∙ ap (λ b. if b then (key x, p ∷ x ∷ more) ∷ groups else ((key p, p ∷ []) ∷ (key x, x ∷ more) ∷ groups)) e ∙ ap (λ k. (k, p ∷ x ∷ more) ∷ groups) (sym (text_is (key p) (key x) e));
     rest = append_assoc (S.next p x) (rest_of S x more) (members_behind groups ++ codes "}") ∙ ap₂ (λ (l r : List ℕ). l ++ r) (sym (ap (λ b. if b then S.next p x else (S.last ++ codes "," ++ (quoted (key x) ++ codes ":") ++ S.first x)) e)) rest;
   }
   begins_joined p x xs false e more groups is rest = record {

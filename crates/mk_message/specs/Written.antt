@@ -43,12 +43,6 @@ message_tree (Failure id text) = tree.List (tree.Whole (pos 2) ∷ tree.Whole (p
 abbrev pub message_text : Message → List ℕ
 message_text m = text_of (message_tree m)
 
--- the whole numbers in a message's content or arguments are in range
-abbrev pub is_in_range : Message → Bool
-is_in_range (Ask id name args named) = list_all trees.is_in_range args && trees.is_in_range named
-is_in_range (Success id content) = trees.is_in_range content
-is_in_range (Failure id text) = true
-
 -- the message has an id that a payload may have, and an object of keyword arguments
 abbrev pub is_readable : Message → Bool
 is_readable (Ask id name args named) = nat_lt id (2 ^ 63) && is_object named

@@ -1,9 +1,9 @@
 //! From a payload to its message.
 ghost use Rattle.std.specs.Prelude.{◌≡◌, ℕ, true, Ok, Err, None, Some, IfOk};
 ghost use Rattle.mk_base.specs.Trees as trees;
-ghost use Rattle.mk_message.specs.Written.{is_in_range};
 ghost use Rattle.mk_message.specs.Messages.{three_of, three_in, kind_in, id_in, request_in, content_in, message_in, message_of};
 ghost use Rattle.mk_message.specs.inner.Asks.{ask_in, ask_named};
+ghost use Rattle.mk_plan.specs.Messages.{is_message_in_range};
 
 use mk_base::{Json, List, Mem, Text};
 use mk_json::{JsonFault, Scratch, read_json_in};
@@ -48,7 +48,7 @@ pub fn read(alloc: Global, payload: &[u8]) -> Result<Message, ReadFault>
     ensures ok { IfOk result (λ m. message_of payload.now ≡ Ok m) }
     ensures refused { (n : ℕ) → result ≡ Err (ReadFault.NotAMessage n)
         → message_of payload.now ≡ Err n }
-    ensures in_range { IfOk result (λ m. is_in_range m ≡ true) }
+    ensures in_range { IfOk result (λ m. is_message_in_range m ≡ true) }
 {
     let mut scratch = Scratch::new(alloc);
     read_in(alloc, &mut scratch, payload)
@@ -59,7 +59,7 @@ pub fn read_in(alloc: Global, scratch: &mut Scratch, payload: &[u8]) -> Result<M
     ensures ok { IfOk result (λ m. message_of payload.now ≡ Ok m) }
     ensures refused { (n : ℕ) → result ≡ Err (ReadFault.NotAMessage n)
         → message_of payload.now ≡ Err n }
-    ensures in_range { IfOk result (λ m. is_in_range m ≡ true) }
+    ensures in_range { IfOk result (λ m. is_message_in_range m ≡ true) }
 {
     match read_json_in(alloc, scratch, payload) {
         Ok(tree) => told(take_tree(tree)),
@@ -74,7 +74,7 @@ pub fn read_tree(alloc: Global, tree: &Json) -> Result<Message, ReadFault>
     ensures refused { (n : ℕ) → result ≡ Err (ReadFault.NotAMessage n)
         → message_in tree.now ≡ Err n }
     ensures in_range { IfOk result
-        (λ m. trees.is_in_range tree.now ≡ true → is_in_range m ≡ true) }
+        (λ m. trees.is_in_range tree.now ≡ true → is_message_in_range m ≡ true) }
 {
     let tree = tree.copy(alloc)?;
     told(take_tree(tree))
@@ -94,7 +94,7 @@ fn told(read: Result<Message, u8>) -> Result<Message, ReadFault>
 /// the tests 2 to 5 that the tree fails.
 pub fn take_tree(tree: Json) -> Result<Message, u8>
     ensures value { result ≡ message_in tree }
-    ensures in_range { IfOk result (λ m. trees.is_in_range tree ≡ true → is_in_range m ≡ true) }
+    ensures in_range { IfOk result (λ m. trees.is_in_range tree ≡ true → is_message_in_range m ≡ true) }
 {
     message_of_tree(tree)
 }

@@ -3,7 +3,8 @@ ghost use Rattle.std.specs.Prelude.{◌≡◌, ◌≤◌, ◌∷◌, [], pos, tr
 ghost use Rattle.mk_base.specs.Trees as trees;
 ghost use Rattle.mk_base.specs.Trees.{nesting};
 ghost use Rattle.mk_message.specs.Messages.{message_of};
-ghost use Rattle.mk_message.specs.Written.{message_text, message_tree, is_in_range, is_readable};
+ghost use Rattle.mk_message.specs.Written.{message_text, message_tree, is_readable};
+ghost use Rattle.mk_plan.specs.Messages.{is_message_in_range};
 
 use mk_base::{Json, List, Mem, Text};
 use mk_json::put_json;
@@ -15,7 +16,7 @@ use std::alloc::Global;
 /// where the id is below 2^63, a request's keyword arguments are an object, and the payload nests no
 /// deeper than 127.
 pub fn write(alloc: Global, message: &Message) -> Result<Vec<u8>, Mem>
-    requires { is_in_range message.now ≡ true }
+    requires { is_message_in_range message.now ≡ true }
     ensures text { IfOk result (λ v. v.items ≡ message_text message.now) }
     ensures reads_back { IfOk result (λ v. is_readable message.now ≡ true
         → nesting (message_tree message.now) ≤ 127 → message_of v.items ≡ Ok message.now) }
@@ -29,7 +30,7 @@ pub fn write(alloc: Global, message: &Message) -> Result<Vec<u8>, Mem>
 fn tree_of(alloc: Global, message: &Message) -> Result<Json, Mem>
     ensures tree { IfOk result (λ t. t ≡ message_tree message.now) }
     ensures in_range { IfOk result
-        (λ t. is_in_range message.now ≡ true → trees.is_in_range t ≡ true) }
+        (λ t. is_message_in_range message.now ≡ true → trees.is_in_range t ≡ true) }
 {
     match message {
         Message::Ask {

@@ -1,6 +1,7 @@
 //! Payloads read and written, request by request and item by item.
 ghost use Rattle.std.specs.Prelude.{◌≡◌, true, IfOk};
-ghost use Rattle.mk_message.specs.Written.{is_call_in_range, is_in_range};
+ghost use Rattle.mk_message.specs.Written.{is_call_in_range};
+ghost use Rattle.mk_plan.specs.Messages.{is_message_in_range};
 
 use crate::texts::{datum_of, tree_of};
 use mk_base::{List, Mem, Text, Tier};
@@ -11,7 +12,7 @@ use mk_plan::{Call, Input, Item, Message, Want};
 use std::alloc::Global;
 
 fn is_written(alloc: Global, message: &Message, want: &str) -> bool
-    requires { is_in_range message.now ≡ true }
+    requires { is_message_in_range message.now ≡ true }
 {
     match write(alloc, message) {
         Ok(payload) => payload.as_slice() == want.as_bytes(),
@@ -20,7 +21,7 @@ fn is_written(alloc: Global, message: &Message, want: &str) -> bool
 }
 
 fn is_right(alloc: Global, message: &Message, want: Result<&str, u8>) -> bool
-    requires { is_in_range message.now ≡ true }
+    requires { is_message_in_range message.now ≡ true }
 {
     match want {
         Ok(text) => is_written(alloc, message, text),
@@ -37,7 +38,7 @@ fn is_failed(fault: ReadFault, want: Result<&str, u8>) -> bool {
 
 // Whether what was read is written as this text, or failed the test of this number.
 fn is_told(alloc: Global, told: Result<Message, ReadFault>, want: Result<&str, u8>) -> bool
-    requires { IfOk told (λ m. is_in_range m ≡ true) }
+    requires { IfOk told (λ m. is_message_in_range m ≡ true) }
 {
     match told {
         Ok(message) => is_right(alloc, &message, want),

@@ -10,9 +10,9 @@ use Rattle.mk_plan.specs.Acts.{Act, Family, made, output}
 use Rattle.mk_plan.specs.Asks.{gives_attr}
 use Rattle.mk_plan.specs.Deliveries.{Timed, Supply, supply, outputs_of}
 use Rattle.mk_plan.specs.Sequential.{grown}
-use Rattle.mk_order.proofs.Reasons.{and_both}
 use Rattle.mk_order.proofs.Entries.{outputs_after, outputs_apart, output_given, output_missing}
-use Rattle.mk_order.proofs.GivenValues.{text_is}
+use Rattle.mk_base.proofs.Bools.{both_hold}
+use Rattle.mk_base.proofs.Guessing.{text_is}
 
 -- the same attribute of the same entity
 abbrev pub is_of : ℕ → List ℕ → ℕ → List ℕ → Bool
@@ -35,7 +35,7 @@ module _ (P : Plan) (A : Family) (s : ℕ) (f : Act) where
       go : (g : ℕ) (b : List ℕ) → gives_attr P g b ≡ true → (c : Bool) → is_of e attr g b ≡ c
           → (if c then S.outputs g b ++ (let t : Timed = record { at = made f; value = w } in t) ∷ [] else S.outputs g b) ≡ (supply P A).outputs g b ++ (if c || done g b then outputs_of P g b (f ∷ []) else [])
       go g b given true k =
-          let t = and_both (g == e) (same_text b attr) k in
+          let t = both_hold (g == e) (same_text b attr) k in
           let same_e : g ≡ e = eqb-true g e t.0 in
           let same_a : b ≡ attr = text_is b attr t.1 in
           let before : S.outputs g b ≡ (supply P A).outputs g b = h.outputs g b given ∙ ap (λ (d : Bool). (supply P A).outputs g b ++ (if d then outputs_of P g b (f ∷ []) else [])) ((λ i. done (same_e i) (same_a i)) ∙ new) ∙ append_nil _ in
@@ -54,7 +54,7 @@ module _ (P : Plan) (A : Family) (s : ℕ) (f : Act) where
       go : (g : ℕ) (b : List ℕ) → (c : Bool) → is_of e attr g b ≡ c
           → (supply P A).outputs g b ++ (if done g b then outputs_of P g b (f ∷ []) else []) ≡ (supply P A).outputs g b ++ (if c || done g b then outputs_of P g b (f ∷ []) else [])
       go g b true k =
-          let t = and_both (g == e) (same_text b attr) k in
+          let t = both_hold (g == e) (same_text b attr) k in
           let same_e : g ≡ e = eqb-true g e t.0 in
           let same_a : b ≡ attr = text_is b attr t.1 in
           ap (λ (l : List Timed). (supply P A).outputs g b ++ l) (nothing g b (output_missing P s f g b ((λ i. output P f (same_e i) (same_a i)) ∙ none)) (done g b))

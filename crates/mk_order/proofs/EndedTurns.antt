@@ -27,7 +27,7 @@ use Rattle.mk_plan.specs.Ready.{pending, step_at, last_step, IsReady}
 use Rattle.mk_plan.specs.Advance.{IsAdvance}
 use Rattle.mk_plan.specs.Orderly.{IsAllowed, IsOrderlySoFar}
 use Rattle.mk_plan.specs.Walks.{IsLink, from_start}
-use Rattle.mk_order.proofs.Reasons.{IsNextOf, finds, due_in, edge_of, and_both, both_and}
+use Rattle.mk_order.proofs.Reasons.{IsNextOf, finds, due_in, edge_of}
 use Rattle.mk_order.proofs.RightActs.{IsRight, made_no_earlier}
 use Rattle.mk_order.proofs.Theory.{edge_link, next_after}
 use Rattle.mk_order.proofs.Limits.{IsInLimit, view_kept, triggers_within}
@@ -37,13 +37,14 @@ use Rattle.mk_order.proofs.Entries.{Brings, IsNew, by_itself, by_output, grown_n
 use Rattle.mk_order.proofs.Queues.{is_before, before_then_up_to}
 use Rattle.mk_order.proofs.Pends.{PendsWith, pends_ended}
 use Rattle.mk_order.specs.Pending.{IsPendingAt, IsTriggeredAt, Pends}
+use Rattle.mk_base.proofs.Bools.{and_holds, both_hold}
 
 -- ---- what a connection brings
 
 module _ (P : Plan) (s : ℕ) (f : Act) where
   pub brings_by : (c : Conn) (w : List ℕ) → IsIn c P.conns → c.triggering ≡ true → owner P c.from ≡ s → output P f c.from c.from_attr ≡ Some w → int_lt (delayed (made f) c.via).time P.until ≡ true → Brings P s f (owner P c.to) (delayed (made f) c.via) c
   brings_by c w m on from given early = record {
-    to = filter_in (λ (d : Conn). d.triggering && (owner P d.to == owner P c.to)) c P.conns m (both_and c.triggering (owner P c.to == owner P c.to) on (eq-eqb (owner P c.to) (owner P c.to) refl));
+    to = filter_in (λ (d : Conn). d.triggering && (owner P d.to == owner P c.to)) c P.conns m (and_holds c.triggering (owner P c.to == owner P c.to) on (eq-eqb (owner P c.to) (owner P c.to) refl));
     from = from;
     value = w;
     given = given;
@@ -54,7 +55,7 @@ module _ (P : Plan) (s : ℕ) (f : Act) where
   pub brings_out : (j : ℕ) (y : Tier) (c : Conn) → Brings P s f j y c → IsIn c P.conns × (c.triggering ≡ true) × (owner P c.to ≡ j)
   brings_out j y c b =
       let t = in_filter (λ (d : Conn). d.triggering && (owner P d.to == j)) c P.conns b.to in
-      let u = and_both c.triggering (owner P c.to == j) t.1 in
+      let u = both_hold c.triggering (owner P c.to == j) t.1 in
       (t.0, u.0, eqb-true (owner P c.to) j u.1)
 
   pub not_given : (j : ℕ) (y : Tier) (c : Conn) → output P f c.from c.from_attr ≡ None → Brings P s f j y c → ⊥

@@ -22,9 +22,10 @@ use Rattle.mk_plan.specs.Sequential.{grown, last_time}
 use Rattle.mk_plan.specs.Journals.{OpenTurn, View, with_open, open_after, begun, told_more, note_sent, ended_turn, note_right, note_got}
 use Rattle.mk_plan.specs.Ready.{pending, start, step_at, last_step, IsReady}
 use Rattle.mk_plan.specs.Report.{is_step}
-use Rattle.mk_order.proofs.Reasons.{and_both, IsNextOf, in_triggers, triggers_in, triggers_early, due_why, due_first, due_next, due_triggered}
+use Rattle.mk_order.proofs.Reasons.{IsNextOf, in_triggers, triggers_in, triggers_early, due_why, due_first, due_next, due_triggered}
 use Rattle.mk_order.proofs.Seen.{open_after_is}
 use Rattle.mk_order.proofs.Limits.{IsInLimit, trigger_in_limit}
+use Rattle.mk_base.proofs.Bools.{both_hold}
 
 -- ---- at the simulator of an entry, and at the others
 
@@ -148,7 +149,7 @@ module _ (P : Plan) (s : ℕ) (f : Act) where
   brought_to i j y z c b d = sym (is_to i y b) ∙ is_to j z d
     where
       is_to : (k : ℕ) (x : Tier) → Brings k x c → owner P c.to ≡ k
-      is_to k x b = let t = in_filter (λ (c : Conn). c.triggering && (owner P c.to == k)) c P.conns b.to in eqb-true (owner P c.to) k (and_both c.triggering (owner P c.to == k) t.1).1
+      is_to k x b = let t = in_filter (λ (c : Conn). c.triggering && (owner P c.to == k)) c P.conns b.to in eqb-true (owner P c.to) k (both_hold c.triggering (owner P c.to == k) t.1).1
 
   -- what an act within the limit brings is within the run and the loop limit
   pub brought_within : IsInLimit P s f → (j : ℕ) (y : Tier) (c : Conn) → Brings j y c → is_in_run P y ≡ true
@@ -199,7 +200,7 @@ module _ (P : Plan) (s : ℕ) (f : Act) where
           value = r.5.value;
           given = subst (λ (a : Act). output P a r.5.by.from r.5.by.from_attr ≡ Some r.5.value) new.1 r.5.given;
           is = subst (λ (a : Act). y ≡ delayed (made a) r.1) new.1 r.5.is ∙ ap (delayed (made f)) (sym r.5.via);
-          early = (and_both (int_lt y.time P.until) (nat_le y.tier P.loops) r.5.within).0;
+          early = (both_hold (int_lt y.time P.until) (nat_le y.tier P.loops) r.5.within).0;
         }))
       ]
     ]

@@ -28,7 +28,8 @@ use Rattle.mk_order.specs.Supplies.{cut_turn, cut_turns, given_so_far}
 use Rattle.mk_order.proofs.Seen.{open_after_is}
 use Rattle.mk_order.proofs.Opened.{inputs_opened, outputs_opened}
 use Rattle.mk_order.proofs.Entries.{opened_case, grown_case}
-use Rattle.mk_order.proofs.GivenValues.{text_is, AreGiven, IsUnder, message_under, filter_map_gifts, is_for, assemble_given}
+use Rattle.mk_order.proofs.GivenValues.{AreGiven, IsUnder, message_under, filter_map_gifts, is_for, assemble_given}
+use Rattle.mk_base.proofs.Guessing.{text_is}
 
 module _ (P : Plan) where
   abbrev gift_at : Tier → SetValue → Gift

@@ -24,34 +24,21 @@ use Rattle.mk_plan.specs.Asks.{Request, Get, Set, Related, RelatedOfEach, Lookup
 use Rattle.mk_plan.specs.Deliveries.{Timed, Gift, Supply, supply}
 use Rattle.mk_plan.specs.Inputs.{is_since, gifts_to, input_order, gift_input, assemble}
 use Rattle.mk_plan.specs.Sequential.{grown}
-use Rattle.mk_order.proofs.Reasons.{and_both, both_and}
 use Rattle.mk_order.proofs.Entries.{gifts_after, gifts_apart}
 use Rattle.mk_order.proofs.Assembled.{else_by, last_with, assemble_by_last}
+use Rattle.mk_base.proofs.Bools.{both_equal, and_holds, both_hold}
+use Rattle.mk_base.proofs.Guessing.{text_is}
+use Rattle.mk_base.proofs.Items.{same_text_self}
 
 -- ---- texts
-
-pub text_is : (x y : List ℕ) → same_text x y ≡ true → x ≡ y
-text_is [] [] h = refl
-text_is [] (b ∷ y) h = absurd (true≢false (sym h))
-text_is (a ∷ x) [] h = absurd (true≢false (sym h))
-text_is (a ∷ x) (b ∷ y) h = let t = and_both (nat_eq a b) (same_text x y) h in λ i. eqb-true a b t.0 i ∷ text_is x y t.1 i
-
-pub is_text : (x : List ℕ) → same_text x x ≡ true
-is_text [] = refl
-is_text (a ∷ x) = both_and (nat_eq a a) (same_text x x) (eq-eqb a a refl) (is_text x)
 
 equal_texts : (x y : List ℕ) → text_order x y ≡ Equal → x ≡ y
 equal_texts x y e = text_is x y (texts_ties x y ∙ ap is_eq e)
 
-then_equal : (a b : Ordering) → ordering_then a b ≡ Equal → (a ≡ Equal) × (b ≡ Equal)
-then_equal Less b e = cc
-then_equal Equal b e = (refl, e)
-then_equal Greater b e = cc
-
 -- inputs of one key have one source
 pub one_source : (k n : Input) → input_order k n ≡ Equal → k.source ≡ n.source
-one_source k n e = let t = then_equal (text_order k.eid n.eid) (ordering_then (text_order k.attr n.attr) (text_order k.source n.source)) e in
-    equal_texts k.source n.source (then_equal (text_order k.attr n.attr) (text_order k.source n.source) t.1).1
+one_source k n e = let t = both_equal (text_order k.eid n.eid) (ordering_then (text_order k.attr n.attr) (text_order k.source n.source)) e in
+    equal_texts k.source n.source (both_equal (text_order k.attr n.attr) (text_order k.source n.source) t.1).1
 
 -- ---- the last of a key among gifts
 
@@ -177,7 +164,7 @@ module _ (P : Plan) where
             unnamed : (g : Gift) → IsIn g all → input_order k (gift_of g) ≡ Equal → ⊥
             unnamed g m d =
                 let t = given.sourced g m in
-                let same : same_text k.source (full_id P t.0) ≡ true = ap (λ (u : List ℕ). same_text u (full_id P t.0)) (one_source k (gift_of g) d ∙ t.2) ∙ is_text (full_id P t.0) in
+                let same : same_text k.source (full_id P t.0) ≡ true = ap (λ (u : List ℕ). same_text u (full_id P t.0)) (one_source k (gift_of g) d ∙ t.2) ∙ same_text_self (full_id P t.0) in
                 true≢false (sym (passes_some (λ e. same_text k.source (full_id P e)) t.0 (range_with_len 0 (length P.entities)) (range_in t.0 0 (length P.entities) (omega arith) (omega (arith, t.1))) same) ∙ e)
 
     each_input : (l : List Gift) → map (gift_input P) (map (λ (g : Gift). g.given) l) ≡ map gift_of l
@@ -215,8 +202,8 @@ module _ (P : Plan) where
 
   every_passes : {X : Type 0} (p : X → Bool) (xs : List X) (x : X) → list_all p xs ≡ true → IsIn x xs → p x ≡ true
   every_passes p [] x h m = absurd m
-  every_passes p (y ∷ ys) x h (inl e) = ap p e ∙ (and_both (p y) (list_all p ys) h).0
-  every_passes p (y ∷ ys) x h (inr m) = every_passes p ys x (and_both (p y) (list_all p ys) h).1 m
+  every_passes p (y ∷ ys) x h (inl e) = ap p e ∙ (both_hold (p y) (list_all p ys) h).0
+  every_passes p (y ∷ ys) x h (inr m) = every_passes p ys x (both_hold (p y) (list_all p ys) h).1 m
 
   -- the entity of s that a value is set under
   pub record IsUnder (s : ℕ) (w : SetValue) : Type 0 where
@@ -234,7 +221,7 @@ module _ (P : Plan) where
       let d = in_flat_map _ w v.0.value v.2 in
       let a = in_map _ w d.0.value d.2 in
       let p = every_passes _ values v.0 h v.1 in
-      let t = named_entity v.0.name (λ e. owner P e == s) (and_both (of_entity P v.0.name (λ e. owner P e == s)) _ p).0 in
+      let t = named_entity v.0.name (λ e. owner P e == s) (both_hold (of_entity P v.0.name (λ e. owner P e == s)) _ p).0 in
       record { entity = t.0; below = t.1; owned = eqb-true (owner P t.0) s t.2; named = ap (λ (u : SetValue). u.source) a.2 ∙ t.3 }
 
   answered_under : (look : Lookup) (s : ℕ) (o : Option Request) (w : SetValue) → IsIn w (answered_sets (answer_request P look s o)) → IsUnder s w

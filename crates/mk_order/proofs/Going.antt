@@ -27,10 +27,11 @@ use Rattle.mk_plan.specs.Advance.{IsComing, IsAdvance, bounded, unbounded, IsPro
 use Rattle.mk_plan.specs.Orderly.{IsAllowed}
 use Rattle.mk_plan.specs.Agreement.{Alike}
 use Rattle.mk_order.proofs.VisitOrder.{ranks_differ}
-use Rattle.mk_order.proofs.Reasons.{pending_below, in_triggers, triggers_in, triggers_early, edge_of, and_both}
+use Rattle.mk_order.proofs.Reasons.{pending_below, in_triggers, triggers_in, triggers_early, edge_of}
 use Rattle.mk_order.proofs.RightActs.{made_no_earlier}
 use Rattle.mk_order.proofs.Theory.{parts, laws, output_ended}
 use Rattle.mk_order.proofs.Seen.{seen, turn_of, reach_seen, reach_back, ready_seen, IsSound, follows}
+use Rattle.mk_base.proofs.Bools.{both_hold}
 
 apart : (x y : Tier) → IsBefore x y → x ≡ y → ⊥
 apart x y a e = true≢false (sym (up_to_self y) ∙ ap (λ (t : Tier). up_to y t) (sym e) ∙ a)
@@ -128,7 +129,7 @@ module _ (P : Plan) (valid : IsValidPlan P) where
 
   pub every_ended : (acts : List Act) → all_ended acts ≡ true → theory.Every (λ (a : Act). a.ended ≡ true) acts
   every_ended [] h = tt
-  every_ended (a ∷ acts) h = let t = and_both a.ended (all_ended acts) h in (t.0, every_ended acts t.1)
+  every_ended (a ∷ acts) h = let t = both_hold a.ended (all_ended acts) h in (t.0, every_ended acts t.1)
 
   -- two runs in which each turn ends, and that are alike, are the same
   pub same_runs : (R Q : Messages) → ((i : ℕ) → i < sim_count P → all_ended (sequential P R i) ≡ true) → ((i : ℕ) → i < sim_count P → all_ended (sequential P Q i) ≡ true) → Alike P R Q → (i : ℕ) → run_talk P R i ≡ run_talk P Q i

@@ -28,8 +28,8 @@ use Rattle.mk_plan.specs.Inputs.{latest, is_since, initial_of, pick, gifts_to, c
 use Rattle.mk_plan.specs.Sequential.{response, next_step, last_time}
 use Rattle.mk_base.proofs.Lists.{in_map, map_in, in_filter, in_flat_map, flat_map_in, in_filter_map, in_front, in_back, filter_append, filter_none, append_nil, map_append, filter_map_append, flat_map_append, map_same, flat_map_same, filter_map_same, some_passes, in_each}
 use Rattle.mk_order.specs.Supplies.{followed}
-use Rattle.mk_order.proofs.Reasons.{and_both}
 use Rattle.mk_order.proofs.RightActs.{made_no_earlier}
+use Rattle.mk_base.proofs.Bools.{both_hold}
 
 -- what i makes at y comes to s after x, over every link
 abbrev pub IsLate : Plan → ℕ → Tier → ℕ → Tier → Type 0
@@ -46,7 +46,7 @@ not_sooner x y z h k = elim (up_to z x) as (λ b. up_to z x ≡ b → b ≡ fals
 lender : (P : Plan) (from to : ℕ) → has_pair P from to ≡ true → (p : AsyncPair) × IsIn p P.asyncs × (p.from.0 ≡ from) × (p.to.0 ≡ to)
 lender P from to h =
     let t = some_passes (λ (p : AsyncPair). (p.from.0 == from) && (p.to.0 == to)) P.asyncs h in
-    let u = and_both (t.0.from.0 == from) (t.0.to.0 == to) t.2 in
+    let u = both_hold (t.0.from.0 == from) (t.0.to.0 == to) t.2 in
     (t.0, t.1, eqb-true _ _ u.0, eqb-true _ _ u.1)
 
 pub pair_plain : (P : Plan) (from to : ℕ) → has_pair P from to ≡ true → IsLink P from Plain to
@@ -61,10 +61,10 @@ pair_back P from to h =
 
 -- ---- answered requests keep to the asynchronous pairs
 
-all_pass : {X : Type 0} (p : X → Bool) (xs : List X) (x : X) → list_all p xs ≡ true → IsIn x xs → p x ≡ true
+pub all_pass : {X : Type 0} (p : X → Bool) (xs : List X) (x : X) → list_all p xs ≡ true → IsIn x xs → p x ≡ true
 all_pass p [] x h m = absurd m
-all_pass p (y ∷ ys) x h (inl e) = ap p e ∙ (and_both (p y) (list_all p ys) h).0
-all_pass p (y ∷ ys) x h (inr m) = all_pass p ys x (and_both (p y) (list_all p ys) h).1 m
+all_pass p (y ∷ ys) x h (inl e) = ap p e ∙ (both_hold (p y) (list_all p ys) h).0
+all_pass p (y ∷ ys) x h (inr m) = all_pass p ys x (both_hold (p y) (list_all p ys) h).1 m
 
 entity_passes : (P : Plan) (text : List ℕ) (test : ℕ → Bool) → of_entity P text test ≡ true → test (unwrap_or (entity_of P text) 0) ≡ true
 entity_passes P text test h = go (entity_of P text) h

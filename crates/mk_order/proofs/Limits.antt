@@ -25,8 +25,10 @@ use Rattle.mk_plan.specs.Journals.{OpenTurn, Owed, View, Fault, LoopLimit, empty
 use Rattle.mk_plan.specs.Ready.{IsReady}
 use Rattle.mk_plan.specs.Orderly.{IsNext, IsAllowed, IsOrderlyFrom, IsOrderlySoFar}
 use Rattle.mk_plan.specs.Report.{is_step}
-use Rattle.mk_order.proofs.Reasons.{and_both, both_and, in_due, found, in_triggers, triggers_early, pending_due}
-use Rattle.mk_order.proofs.Seen.{IsSound, same_self, open_after_is, follows}
+use Rattle.mk_order.proofs.Reasons.{in_due, found, in_triggers, triggers_early, pending_due}
+use Rattle.mk_order.proofs.Seen.{IsSound, open_after_is, follows}
+use Rattle.mk_base.proofs.Counts.{same_self}
+use Rattle.mk_base.proofs.Bools.{and_holds, both_hold}
 
 -- ---- what an act triggers
 
@@ -75,7 +77,7 @@ module _ (P : Plan) where
   -- what an act in the limit triggers is in the limit
   pub trigger_in_limit : (a : Act) (c : Conn) (s : ℕ) (w : List ℕ) → IsInLimit (owner P c.from) a → IsIn c (triggering_to P s) → output P a c.from c.from_attr ≡ Some w
       → int_lt (delayed (made a) c.via).time P.until ≡ true → is_in_run P (delayed (made a) c.via) ≡ true
-  trigger_in_limit a c s w kept m gives early = both_and _ _ early (le-leb (delayed (made a) c.via).tier P.loops low)
+  trigger_in_limit a c s w kept m gives early = and_holds _ _ early (le-leb (delayed (made a) c.via).tier P.loops low)
     where
       j : ℕ
       j = owner P c.from
@@ -85,7 +87,7 @@ module _ (P : Plan) where
 
       from_j : IsIn c (filter (λ (c : Conn). c.triggering && (owner P c.from == j)) P.conns)
       from_j = let t = in_filter (λ (c : Conn). c.triggering && (owner P c.to == s)) c P.conns m in
-          filter_in (λ (c : Conn). c.triggering && (owner P c.from == j)) c P.conns t.0 (both_and c.triggering (owner P c.from == j) (and_both c.triggering (owner P c.to == s) t.1).0 (same_self j))
+          filter_in (λ (c : Conn). c.triggering && (owner P c.from == j)) c P.conns t.0 (and_holds c.triggering (owner P c.from == j) (both_hold c.triggering (owner P c.to == s) t.1).0 (same_self j))
 
       outputs : (supply P (grown no_acts j a)).outputs c.from c.from_attr ≡ outputs_of P c.from c.from_attr (a ∷ [])
       outputs = ap (λ (b : Bool). outputs_of P c.from c.from_attr (if b then [] ++ a ∷ [] else [])) (same_self j)
@@ -122,7 +124,7 @@ module _ (Ready : Plan → View → ℕ → Tier → Type 0) (Advance : Plan →
   ready_tier : (V : View) (s : ℕ) (x : Tier) → IsReady P V s x → x.tier ≤ P.loops
   ready_tier V s x ready =
       let t = in_due P V.acts s x (found x _ (pending_due P V.acts s x ready.at_pending)) in
-      leb-true x.tier P.loops (and_both (int_lt x.time P.until) (nat_le x.tier P.loops) t.2).1
+      leb-true x.tier P.loops (both_hold (int_lt x.time P.until) (nat_le x.tier P.loops) t.2).1
 
   kept_got : (V : View) → IsKept V → V.fault ≡ None → (i : ℕ) (m : Message) (o : Option OpenTurn) (c : Option Cause) → V.open_at i ≡ o → IsKept (note_got P V i m o c)
   kept_got V kept fine i m o (Some c) is = record { opened = kept.opened; acts = λ e. absurd (none_some (sym e)) }

@@ -26,8 +26,9 @@ use Rattle.mk_plan.specs.Sequential.{used, act, rest, Visit, visits, at_tier}
 use Rattle.mk_base.proofs.Lists.{in_either, in_map, in_each, all_at, all_in, get_is}
 use Rattle.mk_plan.specs.Walks.{link}
 use Rattle.mk_order.proofs.VisitOrder.{visits_have, visits_are, edge_width}
-use Rattle.mk_order.proofs.Reasons.{due_why, and_both}
+use Rattle.mk_order.proofs.Reasons.{due_why}
 use Rattle.mk_base.specs.Limits.{latest_end}
+use Rattle.mk_base.proofs.Bools.{both_hold}
 
 pub made_no_earlier : (a : Act) → up_to a.at (made a) ≡ true
 made_no_earlier a = at_time (output_time a)
@@ -114,7 +115,7 @@ module _ (P : Plan) (valid : IsValidPlan P) where
   pub due_visited : (A : Family) (s : ℕ) (x : Tier) → ((i : ℕ) → Each IsRight (A i)) → is_due P A s x ≡ true → IsIn {X = Visit} (x, s) (visits P)
   due_visited A s x right h =
       let t = due_not_negative A s x right h in
-      let w = and_both (int_lt x.time P.until) (nat_le x.tier P.loops) t.1 in
+      let w = both_hold (int_lt x.time P.until) (nat_le x.tier P.loops) t.1 in
       let early : int_lt x.time P.until ≡ true = w.0 in
       let z : pos 0 ≤ℤ x.time = t.0 in
       let n : nat_abs x.time < nat_abs P.until = grind (arith, ints) in

@@ -26,6 +26,7 @@ use Rattle.mk_plan.specs.Ready.{pending, start, step_at, IsReady}
 use Rattle.mk_plan.specs.Orderly.{IsNext, IsAllowed, IsOrderlyFrom, IsOrderlySoFar}
 use Rattle.mk_plan.specs.Report.{is_step}
 use Rattle.mk_order.proofs.Theory.{parts}
+use Rattle.mk_base.proofs.Counts.{not_same, same_self}
 
 -- ---- the view, as the theory has it
 
@@ -38,12 +39,6 @@ turn_of P o i T = record { when = T.at; messages = T.messages; place = T.place; 
 
 abbrev pub seen : (P : Plan) → View → theory.View (parts P)
 seen P V = record { acts = V.acts; open_at = λ i. option_map (turn_of P V.owed i) (V.open_at i) }
-
-pub same_self : (i : ℕ) → (i == i) ≡ true
-same_self i = eq-eqb i i refl
-
-pub not_same : (i j : ℕ) → (i ≡ j → ⊥) → (i == j) ≡ false
-not_same i j h = elim (i == j) as (λ b. (i == j) ≡ b → b ≡ false) [ true ↦ λ e. absurd (h (eqb-true i j e)) | false ↦ λ e. refl ] refl
 
 -- what is owed is owed in an open turn, and is no Step
 pub record IsSound (V : View) : Type 0 where

@@ -18,15 +18,12 @@ use Rattle.mk_plan.specs.Inputs.{latest, pick, gifts_to, connections_to, connect
 use Rattle.mk_plan.specs.Sequential.{response}
 use Rattle.mk_base.proofs.Lists.{in_filter, in_range, passes_some, flat_map_same}
 use Rattle.mk_order.specs.Supplies.{SameSupply}
-use Rattle.mk_order.proofs.Reasons.{both_and}
 use Rattle.mk_order.proofs.LateActs.{same_answer}
+use Rattle.mk_base.proofs.Bools.{and_holds}
+use Rattle.mk_base.proofs.Items.{same_text_self}
 
-text_itself : (s : List ℕ) → same_text s s ≡ true
-text_itself [] = refl
-text_itself (b ∷ s) = both_and (nat_eq b b) (same_text s s) (eq-eqb b b refl) (text_itself s)
-
-given_by : (P : Plan) (c : Conn) → IsIn c P.conns → gives_attr P c.from c.from_attr ≡ true
-given_by P c m = passes_some (λ (d : Conn). (d.from == c.from) && same_text d.from_attr c.from_attr) c P.conns m (both_and (c.from == c.from) (same_text c.from_attr c.from_attr) (eq-eqb c.from c.from refl) (text_itself c.from_attr))
+pub given_by : (P : Plan) (c : Conn) → IsIn c P.conns → gives_attr P c.from c.from_attr ≡ true
+given_by P c m = passes_some (λ (d : Conn). (d.from == c.from) && same_text d.from_attr c.from_attr) c P.conns m (and_holds (c.from == c.from) (same_text c.from_attr c.from_attr) (eq-eqb c.from c.from refl) (same_text_self c.from_attr))
 
 module _ (P : Plan) (S T : Supply) (same : SameSupply P S T) where
   same_deliveries : (c : Conn) → IsIn c P.conns → deliveries P S c ≡ deliveries P T c

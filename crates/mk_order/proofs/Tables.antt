@@ -35,6 +35,7 @@ use Rattle.mk_order.proofs.Queues.{is_before, before_is, IsLeastFlagged, no_flag
 use Rattle.mk_order.proofs.Pends.{since_past, closed_last}
 use Rattle.mk_order.specs.Pending.{IsPendingAt, IsTriggeredAt, Pends, StartsOf}
 use Rattle.mk_order.proofs.EndedTurns.{triggered_pends}
+use Rattle.mk_base.proofs.Counts.{time_up_to}
 
 -- no simulator beyond the count has a start
 pub start_beyond : (P : Plan) → IsValidPlan P → (J : List Entry) → IsOrderlySoFar IsReady IsAdvance P J → (i : ℕ) → sim_count P ≤ i → (start P (view P J) i ≡ None) × ((view P J).open_at i ≡ None)
@@ -169,9 +170,6 @@ sooner (Some d) (Some t) = Some (int_min d.time t)
 abbrev pub advance_by : ℤ → ℤ → Option ℤ → ℤ
 advance_by until time None = until
 advance_by until time (Some t) = int_min until (int_max time (t -ℤ pos 1))
-
-time_up_to : (x y : Tier) → IsUpTo x y → x.time ≤ℤ y.time
-time_up_to x y h = elim (is_up_to x y h) [ inl e ↦ grind (arith, ints) | inr e ↦ grind (arith, ints) ]
 
 -- the least trigger of s that came and is after x, if there is one
 pub data IsLeastTrigger (P : Plan) (V : View) (s : ℕ) (x : Tier) : Option Tier → Type 0 where

@@ -23,10 +23,9 @@ use Rattle.mk_plan.specs.Orderly.{IsNext, IsAllowed, IsOrderlyFrom, IsOrderlySoF
 use Rattle.mk_plan.specs.Report.{is_step}
 use Rattle.mk_base.proofs.Lists.{append_nil, flat_map_append, filter_map_append, map_append}
 use Rattle.mk_order.proofs.Theory.{parts}
-use Rattle.mk_order.proofs.Seen.{IsSound, seen, turn_of, same_self, not_same, at_self, open_after_is, follows}
-
-same_or_not : (i s : ℕ) → (i ≡ s) ⊎ (i ≡ s → ⊥)
-same_or_not i s = elim (i == s) as (λ b. (i == s) ≡ b → (i ≡ s) ⊎ (i ≡ s → ⊥)) [ true ↦ λ e. inl (eqb-true i s e) | false ↦ λ e. inr (λ q. true≢false (sym (eq-eqb i s q) ∙ e)) ] refl
+use Rattle.mk_order.proofs.Seen.{IsSound, seen, turn_of, at_self, open_after_is, follows}
+use Rattle.mk_base.proofs.Counts.{same_or_not, not_same, same_self}
+use Rattle.mk_plan.proofs.Sending.{sent_here, sent_away}
 
 pub heard_seen : (P : Plan) (V : View) (i : ℕ) → theory.heard_of (parts P) (seen P V) i ≡ heard V i
 heard_seen P V i = elim (V.open_at i) as (λ o. messages_in (V.acts i) ++ theory.case_of (option_map (turn_of P V.owed i) o) [] (λ T. T.messages) ≡ messages_in (V.acts i) ++ messages_of o) [ None ↦ refl | Some T ↦ refl ]
@@ -34,20 +33,13 @@ heard_seen P V i = elim (V.open_at i) as (λ o. messages_in (V.acts i) ++ theory
 pub said_seen : (P : Plan) (V : View) (i : ℕ) → theory.said_of (parts P) (seen P V) i ≡ said V i
 said_seen P V i = elim (V.open_at i) as (λ o. talk_of (V.acts i) ++ theory.case_of (option_map (turn_of P V.owed i) o) [] (λ T. T.lines) ≡ talk_of (V.acts i) ++ talk_at o) [ None ↦ refl | Some T ↦ refl ]
 
--- the messages and items of one entry
-sent_here : (s : SimNo) (item : Item) → sent (Sent s item ∷ []) s.0 ≡ item ∷ []
-sent_here s item = ap (λ (b : Bool). cons_option (if b then Some item else None) []) (same_self s.0)
-
-sent_away : (s : SimNo) (item : Item) (i : ℕ) → (i ≡ s.0 → ⊥) → sent (Sent s item ∷ []) i ≡ []
-sent_away s item i n = ap (λ (b : Bool). cons_option (if b then Some item else None) []) (not_same s.0 i (λ e. n (sym e)))
-
 got_here : (s : SimNo) (m : Message) → got (Got s m ∷ []) s.0 ≡ m ∷ []
 got_here s m = ap (λ (b : Bool). cons_option (if b then Some m else None) []) (same_self s.0)
 
 got_away : (s : SimNo) (m : Message) (i : ℕ) → (i ≡ s.0 → ⊥) → got (Got s m ∷ []) i ≡ []
 got_away s m i n = ap (λ (b : Bool). cons_option (if b then Some m else None) []) (not_same s.0 i (λ e. n (sym e)))
 
-bare_itself : (item : Item) → is_step item ≡ false → bare item ≡ item
+pub bare_itself : (item : Item) → is_step item ≡ false → bare item ≡ item
 bare_itself (Step x ins advance) h = absurd (true≢false h)
 bare_itself (GetData wants) h = refl
 bare_itself (Answer id content) h = refl

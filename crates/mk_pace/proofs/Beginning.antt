@@ -19,7 +19,7 @@ use Rattle.mk_run_laws.specs.Hearing.{messages_heard}
 use Rattle.mk_run_laws.specs.Channels.{Channel}
 use Rattle.mk_run_laws.specs.Rests.{AllSetUp, IsWellInSetup}
 use Rattle.mk_run_laws.specs.inner.Running.{HasChannel}
-use Rattle.mk_run_laws.proofs.Stepping.{first_or_second, not_empty}
+use Rattle.mk_run_laws.proofs.Stepping.{first_or_second}
 use Rattle.mk_run_laws.proofs.Taking.{taken_heard}
 use Rattle.mk_run_links.specs.Entries.{IsClockless, IsRunLink}
 use Rattle.mk_run_links.proofs.OnEntries.{on_or_clock, or_clock_more}
@@ -36,10 +36,11 @@ use Rattle.mk_pace_laws.specs.Paced.{IsAwake}
 use Rattle.mk_pace_loop.specs.inner.Pacing.{BeginsWithStep, IsPacing, held_at, replies_kept}
 use Rattle.mk_pace_loop.specs.inner.Turns.{IsStopping}
 use Rattle.mk_pace_loop.specs.inner.Waiting.{WaitingSeen, waiting_seen}
-use Rattle.mk_pace_loop.proofs.Passing.{no_naps}
+use Rattle.mk_pace_loop.proofs.Passing.{no_naps, alone}
 use Rattle.mk_pace_loop.proofs.Queueing.{has_channel_moved, told_moved}
 use Rattle.mk_pace.specs.inner.Going.{IsStarted}
 use Rattle.mk_pace.proofs.Whole.{untold_entry}
+use Rattle.mk_base.proofs.Items.{not_empty}
 
 -- nothing waits of any simulator
 nothing_held : (n i : ℕ) → i < n → slice_get (replicate {A = List Held} n []) i ≡ Some []
@@ -59,11 +60,6 @@ held_nowhere n i = go (slice_get (replicate {A = List Held} n []) i) refl
     go : (o : Option (List Held)) → slice_get (replicate {A = List Held} n []) i ≡ o → unwrap_or o [] ≡ []
     go None is = refl
     go (Some h) is = held_none n i h is
-
--- one entry has no other among it
-alone : (e r : LogEntry) (less after : List LogEntry) → (e ≡ r → ⊥) → e ∷ [] ≡ less ++ r ∷ after → ⊥
-alone e r [] after apart is = apart cc
-alone e r (x ∷ less) after apart is = not_empty less after r cc
 
 none_told : (log : List LogEntry) → IsClockless log → list_any is_told log ≡ false
 none_told [] all = refl

@@ -8,7 +8,6 @@ use Rattle.mk_outside.specs.declared.fleet.LogEntry.{LogEntry}
 use Rattle.mk_outside.specs.declared.fleet.LogEntry.TheVariants.{Rest, Told, Nap}
 use Rattle.mk_outside.specs.Logs.{later_of, last_write}
 use Rattle.mk_scenario.specs.declared.parts.Scenario.{Scenario}
-use Rattle.mk_sched.proofs.Pushed.{heads}
 use Rattle.mk_run_crew.specs.Attempts.{Attempt, attempt, longer}
 use Rattle.mk_local.specs.declared.turn.Turn.{Turn}
 use Rattle.mk_run_laws.specs.Crews.{AreStopped, CrewState, IsRestless}
@@ -26,12 +25,14 @@ use Rattle.mk_run_crew.proofs.Stopped.{all_said}
 use Rattle.mk_run.specs.declared.outcome.Outcome.{Outcome}
 use Rattle.mk_run.specs.declared.outcome.Outcome.TheVariants as outcome
 use Rattle.mk_run.specs.Outcomes.{outcome_of}
-use Rattle.mk_run.proofs.Turning.{risen_on}
 use Rattle.mk_pace_laws.specs.declared.end.PaceEnd.TheVariants as pace
 use Rattle.mk_pace_laws.specs.declared.end.PaceRan.{PaceRan}
 use Rattle.mk_pace_laws.specs.Paced.{HasNotPaced, IsAwake, PacesAs}
 use Rattle.mk_pace_loop.proofs.Passing.{no_naps}
 use Rattle.mk_pace.specs.inner.Going.{IsStarted, PlanPacesAs}
+use Rattle.mk_base.proofs.Items.{same_heads}
+use Rattle.mk_outside.proofs.OnLogs.{later-none}
+use Rattle.mk_session.proofs.Polling.{risen_after}
 
 -- what is left then
 abbrev pub nothing_left : Outcome → PaceRan
@@ -39,28 +40,24 @@ nothing_left end = record { end = pace.Outcome end; plan = None; journal = None;
 
 -- ---- a look at the clock before the stop
 
-later_none : (o : Option LogEntry) → later_of None o ≡ o
-later_none None = refl
-later_none (Some e) = refl
-
 told_stopped : (n : ℕ) (entries : List LogEntry) (risen : Type 0) (C : CrewState) → AreStopped entries risen C → AreStopped (Told n ∷ entries) risen C
 told_stopped n entries risen C stopped i w there =
     let s = stopped i w there in
-    record { unheard = s.unheard; said = s.said; framed = s.framed; whole = elim s.whole [ inl said ↦ inl said | inr why ↦ inr (elim why [ inl held ↦ inl (later_none (last_write w.link entries) ∙ held) | inr risen ↦ inr risen ]) ] }
+    record { unheard = s.unheard; said = s.said; framed = s.framed; whole = elim s.whole [ inl said ↦ inl said | inr why ↦ inr (elim why [ inl held ↦ inl (later-none (last_write w.link entries) ∙ held) | inr risen ↦ inr risen ]) ] }
 
 told_restless : (n : ℕ) (entries : List LogEntry) → IsRestless entries → IsRestless (Told n ∷ entries)
-told_restless n entries restless [] after is = apart (heads is).0
+told_restless n entries restless [] after is = apart (same_heads is).0
   where
     apart : Told n ≡ Rest → ⊥
     apart e = cc
-told_restless n entries restless (x ∷ before) after is = restless before after (heads is).1
+told_restless n entries restless (x ∷ before) after is = restless before after (same_heads is).1
 
 told_awake : (n : ℕ) (entries : List LogEntry) → IsAwake entries → IsAwake (Told n ∷ entries)
-told_awake n entries awake [] after is = apart (heads is).0
+told_awake n entries awake [] after is = apart (same_heads is).0
   where
     apart : Told n ≡ Nap → ⊥
     apart e = cc
-told_awake n entries awake (x ∷ before) after is = awake before after (heads is).1
+told_awake n entries awake (x ∷ before) after is = awake before after (same_heads is).1
 
 awake_on : (log entries : List LogEntry) → IsAwake log → IsAwake entries → IsAwake (log ++ entries)
 awake_on log entries one two before after is = elim (first_or_second log entries before after Nap is) [
@@ -108,7 +105,7 @@ pub clock_failed : (P : Plan) (C : CrewSeen) (factor : ℕ) (strict : Option ℕ
 clock_failed P C factor strict entries faults new_faults some ran risen stopped restless of_channels is =
     subst (λ (r : PaceRan). PlanPacesAs P C factor strict entries faults new_faults r.plan r.journal r.moments r.end) (sym is)
     (λ A before low s.
-    let all : HasRisen before new_faults = risen_on before faults new_faults low risen in
+    let all : HasRisen before new_faults = risen_after before faults new_faults low risen in
     (not_paced A C P s entries some (HasRisen before new_faults) halt.Fleet (λ more. all) all stopped restless (on_or_clock (IsChannelLink C.channels) entries of_channels) (awake_of C entries of_channels), refl))
 
 -- there was no memory for the run, when the clock had told its origin
@@ -116,7 +113,7 @@ pub no_memory : (P : Plan) (C : CrewSeen) (origin factor : ℕ) (strict : Option
     → PlanPacesAs P C factor strict (Told origin ∷ entries) faults new_faults ran.plan ran.journal ran.moments ran.end
 no_memory P C origin factor strict entries faults new_faults ran stopped restless of_channels is =
     subst (λ (r : PaceRan). PlanPacesAs P C factor strict (Told origin ∷ entries) faults new_faults r.plan r.journal r.moments r.end) (sym is) (λ A before low s. (
-      not_paced A C P s (Told origin ∷ entries) (HasRisen faults new_faults) (HasRisen before new_faults) halt.Mem (risen_on before faults new_faults low) tt (told_stopped origin entries (HasRisen faults new_faults) (crew_of C) stopped) (told_restless origin entries restless)
+      not_paced A C P s (Told origin ∷ entries) (HasRisen faults new_faults) (HasRisen before new_faults) halt.Mem (risen_after before faults new_faults low) tt (told_stopped origin entries (HasRisen faults new_faults) (crew_of C) stopped) (told_restless origin entries restless)
           (tt, on_or_clock (IsChannelLink C.channels) entries of_channels) (told_awake origin entries (awake_of C entries of_channels)),
       refl,
     ))

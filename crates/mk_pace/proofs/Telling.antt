@@ -8,20 +8,16 @@ use Rattle.mk_outside.specs.declared.paced.Now.TheVariants as now
 use Rattle.mk_outside.specs.Fleets.{IsTold, now_entries}
 use Rattle.mk_outside.specs.Logs.{Adds, greatest_told}
 use Rattle.mk_outside.proofs.OnLogs.{adds_more, adds_none}
-use Rattle.mk_run_laws.proofs.Stepping.{first_or_second, not_empty}
+use Rattle.mk_run_laws.proofs.Stepping.{first_or_second}
 use Rattle.mk_run_links.specs.Entries.{IsClockless, IsNotOfClock}
 use Rattle.mk_pace_laws.specs.Clocks.{IsRising}
 use Rattle.mk_pace_loop.specs.inner.Turns.{RisesOn}
 use Rattle.mk_pace.specs.inner.Going.{AddsRising}
-
--- entries among which no clock was looked at tell no number
-untold : (entries before after : List LogEntry) (n : ℕ) → IsClockless entries → entries ≡ before ++ Told n ∷ after → ⊥
-untold [] before after n all is = not_empty before after (Told n) is
-untold (e ∷ entries) [] after n all is = let same : e ≡ Told n = cc in subst IsNotOfClock same all.0
-untold (e ∷ entries) (x ∷ before) after n all is = let rest : entries ≡ before ++ Told n ∷ after = cc in untold entries before after n all.1 rest
+use Rattle.mk_base.proofs.Items.{not_empty}
+use Rattle.mk_pace_loop.proofs.Risen.{greatest_behind, no_told}
 
 pub rising_clockless : (entries : List LogEntry) (old new : Option (List LogEntry)) → Adds entries old new → IsClockless entries → AddsRising entries old new
-rising_clockless entries old new adds clockless = record { adds = adds; rising = λ some base is before after n parts. absurd (untold entries before after n clockless parts) }
+rising_clockless entries old new adds clockless = record { adds = adds; rising = λ some base is before after n parts. absurd (no_told entries before after n clockless parts) }
 
 pub rising_none : (log : Option (List LogEntry)) → AddsRising [] log log
 rising_none log = rising_clockless [] log log (adds_none log) tt
@@ -91,10 +87,6 @@ rising_more first second old mid new one two = record {
             subst (λ (l : List LogEntry). greatest_told l ≤ n) same there
       ];
 }
-
-greatest_behind : (base before : List LogEntry) → greatest_told before ≤ greatest_told (base ++ before)
-greatest_behind [] before = omega arith
-greatest_behind (e ∷ base) before = let more = greatest_behind base before in omega (arith, more)
 
 -- what was added rises by itself
 pub rises : (entries : List LogEntry) (old new : Option (List LogEntry)) → AddsRising entries old new → IsSome new → IsRising entries

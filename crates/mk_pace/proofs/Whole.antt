@@ -40,6 +40,7 @@ use Rattle.mk_pace_laws.proofs.Napping.{naps_well}
 use Rattle.mk_pace_laws.proofs.Timely.{timely_more}
 use Rattle.mk_pace_loop.specs.inner.PacedOut.{EndsOutcome, EndsPace, HasGivenPaced, HasPacedOut, IsAheadPaced, IsLastPacedChannel}
 use Rattle.mk_pace_loop.proofs.Passing.{moments_later, no_naps, origin_later}
+use Rattle.mk_pace_loop.proofs.Turning.{none_told}
 
 -- ---- entries of no clock
 
@@ -54,14 +55,10 @@ untold_entry Rest all = refl
 untold_entry (Told n) all = absurd all
 untold_entry Nap all = absurd all
 
-none_looked : (entries : List LogEntry) → IsClockless entries → last_that is_told entries ≡ None
-none_looked [] all = refl
-none_looked (e ∷ entries) all = ap (λ (o : Option LogEntry). later_of (if is_told e then Some e else None) o) (none_looked entries all.1) ∙ ap (λ (b : Bool). later_of (if b then Some e else None) None) (untold_entry e all.0)
-
 -- so what was told last stays
 pub told_still : (log entries : List LogEntry) → IsClockless entries → last_told (log ++ entries) ≡ last_told log
 told_still log entries all =
-    ap (λ (o : Option LogEntry). unwrap_or (option_map told_by o) 0) (last-append is_told log entries ∙ ap (later_of (last_that is_told log)) (none_looked entries all))
+    ap (λ (o : Option LogEntry). unwrap_or (option_map told_by o) 0) (last-append is_told log entries ∙ ap (later_of (last_that is_told log)) (none_told entries all))
 
 module _ (S : Setting) (T : Tempo) (strict : Option ℕ) (P : Plan) (J : List Entry) (moments : List Moment) (log entries : List LogEntry) (C : CrewState) (end : PaceEnd) (faults new_faults : ℕ) (by_run by_stop : Type 0)
     (risen : by_run → HasRisen faults new_faults) (rises : by_stop → HasRisen faults new_faults) (out : HasPacedOut by_run S (timing T strict moments) P J log C end) (stop : AreStopped entries by_stop C) (restless : IsRestless entries) (of_channels : AreOn (IsChannelLink C.channels) entries) where

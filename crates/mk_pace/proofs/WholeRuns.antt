@@ -19,7 +19,6 @@ use Rattle.mk_run_crew.specs.Seen.{CrewSeen, crew_of}
 use Rattle.mk_run_crew.specs.Attempts.{Attempt}
 use Rattle.mk_run.specs.inner.Underway.{Setting, reply_in, exchange_at}
 use Rattle.mk_run.specs.inner.Turns.{AreLinksOpen}
-use Rattle.mk_run.proofs.Turning.{risen_on, risen_later}
 use Rattle.mk_run.proofs.WholeRuns.{new_core}
 use Rattle.mk_pace_laws.specs.declared.end.Moment.{Moment}
 use Rattle.mk_pace_laws.specs.declared.end.PaceEnd.{PaceEnd}
@@ -31,6 +30,8 @@ use Rattle.mk_pace_loop.specs.inner.Waiting.{IsOnTempo, WaitingSeen, timing_of}
 use Rattle.mk_pace.specs.inner.Going.{GoesOnAs, IsStarted, PlanPacesAs}
 use Rattle.mk_pace.proofs.Beginning.{begins, links_at, setting_at}
 use Rattle.mk_pace.proofs.Whole.{whole, whole_replies}
+use Rattle.mk_run_links.proofs.OnStops.{risen_later}
+use Rattle.mk_session.proofs.Polling.{risen_after}
 
 -- a paced run from its first turn to its stop
 pub paced_whole : (core new : CoreState) (C D : CrewSeen) (W V : WaitingSeen) (entries stops : List LogEntry) (f0 f1 f2 : ℕ) (end : PaceEnd) → f0 ≤ f1 → f1 ≤ f2 → TurnsAs (Err end) entries (HasRisen f0 f1) core C W new D V → IsOnTempo W V
@@ -42,8 +43,8 @@ paced_whole core new C D W V entries stops f0 f1 f2 end up later ended same stop
     subst (λ (T : Tempo). HasPacedOut (HasRisen f0 f1) S (timing T V.strict V.moments) new.plan new.entries (log ++ entries) (crew_of D) end) same.tempo over in
     let stopping : HasPacedOut (HasRisen f0 f1) S (timing W.tempo W.strict V.moments) new.plan new.entries (log ++ entries) (crew_of D) end =
     subst (λ (o : Option ℕ). HasPacedOut (HasRisen f0 f1) S (timing W.tempo o V.moments) new.plan new.entries (log ++ entries) (crew_of D) end) same.strict on_tempo in
-    let by_run = λ (r : HasRisen f0 f1). risen_on before f0 f2 low (risen_later f0 f1 f2 later r) in
-    let by_stop = λ (r : HasRisen f1 f2). risen_on before f1 f2 (omega (arith, low, up)) r in
+    let by_run = λ (r : HasRisen f0 f1). risen_after before f0 f2 low (risen_later f0 f1 f2 later r) in
+    let by_stop = λ (r : HasRisen f1 f2). risen_after before f1 f2 (omega (arith, low, up)) r in
     let made = whole S W.tempo W.strict new.plan new.entries V.moments (log ++ entries) stops (crew_of D) end before f2 (HasRisen f0 f1) (HasRisen f1 f2) by_run by_stop stopping stopped restless of_channels in
     let moved = subst (λ (l : List LogEntry). (r : IsPaced (exchange_at S l) new.plan new.entries (timing W.tempo W.strict V.moments) before f2 end) × (r.replies ≡ S.replies)) (append_assoc log entries stops) (
       made,

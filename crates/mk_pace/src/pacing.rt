@@ -1,5 +1,5 @@
 //! A paced run over a fleet with a clock.
-ghost use Rattle.std.specs.Prelude.{◌≡◌, ◌≤◌, ◌∷◌, ◌^◌, List, [], IfOk, IfSome, IsSome, None, map, replicate};
+ghost use Rattle.std.specs.Prelude.{◌≡◌, ◌≤◌, ◌∷◌, List, [], IfOk, IfSome, IsSome, None, map, replicate};
 ghost use Rattle.mk_outside.specs.declared.fleet.LogEntry.{LogEntry};
 ghost use Rattle.mk_outside.specs.declared.fleet.LogEntry.TheVariants.{Told};
 ghost use Rattle.mk_outside.specs.Counts.{HasRisen};

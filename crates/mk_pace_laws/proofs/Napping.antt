@@ -27,6 +27,7 @@ use Rattle.mk_pace_laws.specs.Laws.{NapsAreWell}
 use Rattle.mk_pace_laws.specs.Moments.{Tempo, is_early, moment_at, not_early}
 use Rattle.mk_pace_laws.specs.Naps.{AreTold, IsEarly, IsNapOf, IsWellAtNap}
 use Rattle.mk_pace_laws.proofs.Rising.{last_is_greatest, rising_front}
+use Rattle.mk_base.proofs.Counts.{less_test, none_below}
 
 -- ---- what was told
 
@@ -48,21 +49,15 @@ due_by T now log items greatest told first later x inputs advance parts =
 
 -- ---- what was queued are the items before the first early Step
 
-later_than : (now moment : ℕ) → now < moment → nat_lt now moment ≡ true
-later_than now moment less = grind arith
-
-no_later_than : (now moment : ℕ) → moment ≤ now → nat_lt now moment ≡ false
-no_later_than now moment le = grind arith
-
 pub queued_are : (T : Tempo) (now : ℕ) (queued waiting : List Item) → AreDue T now queued → IsEarly T now waiting → not_early T now (queued ++ waiting) ≡ queued
 queued_are T now [] waiting due (inl none) = ap (not_early T now) none
-queued_are T now [] waiting due (inr (x, inputs, advance, more, is, late)) = ap (not_early T now) is ∙ ap (λ (b : Bool). if b then [] else Step x inputs advance ∷ not_early T now more) (later_than now (moment_at T x.time) late)
+queued_are T now [] waiting due (inr (x, inputs, advance, more, is, late)) = ap (not_early T now) is ∙ ap (λ (b : Bool). if b then [] else Step x inputs advance ∷ not_early T now more) (less_test now (moment_at T x.time) late)
 queued_are T now (item ∷ queued) waiting due early =
     ap (λ (b : Bool). if b then [] else item ∷ not_early T now (queued ++ waiting)) (on_time item refl)
     ∙ ap (λ (l : List Item). item ∷ l) (queued_are T now queued waiting (λ first later x inputs advance is. due (item ∷ first) later x inputs advance (ap (λ (l : List Item). item ∷ l) is)) early)
   where
     on_time : (it : Item) → item ≡ it → is_early T now item ≡ false
-    on_time (Step x inputs advance) e = ap (is_early T now) e ∙ no_later_than now (moment_at T x.time) (due [] queued x inputs advance (ap (λ (i : Item). i ∷ queued) e))
+    on_time (Step x inputs advance) e = ap (is_early T now) e ∙ none_below now (moment_at T x.time) (due [] queued x inputs advance (ap (λ (i : Item). i ∷ queued) e))
     on_time (GetData wanted) e = ap (is_early T now) e
     on_time (Answer id content) e = ap (is_early T now) e
     on_time (Refuse id reason) e = ap (is_early T now) e

@@ -4,11 +4,11 @@ use Rattle.mk_base.specs.Lists.{Each, IsIn}
 use Rattle.mk_outside.specs.declared.fleet.LogEntry.{LogEntry}
 use Rattle.mk_outside.specs.declared.fleet.LogEntry.TheVariants.{Told}
 use Rattle.mk_outside.specs.Logs.{greatest_told}
-use Rattle.mk_run_laws.proofs.Stepping.{not_empty}
 use Rattle.mk_pace_laws.specs.declared.end.Moment.{Moment}
 use Rattle.mk_pace_laws.specs.Clocks.{IsRising, last_told}
 use Rattle.mk_pace_laws.proofs.Napping.{told_below}
 use Rattle.mk_pace_laws.proofs.Rising.{last_is_greatest, rising_front}
+use Rattle.mk_base.proofs.Items.{not_empty}
 
 -- what the field `in_order` of `AreMoments` says
 abbrev pub AreInOrder : List LogEntry → List Moment → Type 0

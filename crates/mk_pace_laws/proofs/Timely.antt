@@ -9,20 +9,21 @@ use Rattle.mk_scenario.specs.declared.parts.Scenario.{Scenario}
 use Rattle.mk_outside.specs.declared.fleet.LogEntry.{LogEntry}
 use Rattle.mk_outside.specs.declared.fleet.LogEntry.TheVariants.{Told}
 use Rattle.mk_outside.specs.Logs.{said_on}
-use Rattle.mk_sched.proofs.Pushed.{heads, last_or_before}
+use Rattle.mk_sched.proofs.Pushed.{last_or_before}
 use Rattle.mk_run_laws.specs.Rests.{all_frames}
-use Rattle.mk_run_laws.proofs.Moving.{said_more}
 use Rattle.mk_pace_laws.specs.Clocks.{HasTold}
 use Rattle.mk_pace_laws.specs.Moments.{Tempo, moment_at}
 use Rattle.mk_pace_laws.specs.Naps.{AreTold, IsTimely}
+use Rattle.mk_base.proofs.Items.{same_heads}
+use Rattle.mk_outside.proofs.OnLogs.{said-append}
 
 -- a beginning of two logs is one of the first, or the first and a beginning of the second
 front_of : (a b before after : List LogEntry) → a ++ b ≡ before ++ after → ((less : List LogEntry) × (a ≡ before ++ less)) ⊎ ((less : List LogEntry) × (before ≡ a ++ less))
 front_of [] b before after is = inr (before, refl)
 front_of (e ∷ a) b [] after is = inl (e ∷ a, refl)
-front_of (e ∷ a) b (f ∷ before) after is = elim (front_of a b before after (heads is).1) [
-  | inl t ↦ inl (t.0, (λ i. (heads is).0 i ∷ t.1 i))
-  | inr t ↦ inr (t.0, (let same : f ≡ e = sym (heads is).0 in λ i. same i ∷ t.1 i))
+front_of (e ∷ a) b (f ∷ before) after is = elim (front_of a b before after (same_heads is).1) [
+  | inl t ↦ inl (t.0, (λ i. (same_heads is).0 i ∷ t.1 i))
+  | inr t ↦ inr (t.0, (let same : f ≡ e = sym (same_heads is).0 in λ i. same i ∷ t.1 i))
 ]
 
 -- what was told before counts
@@ -41,7 +42,7 @@ pub timely_queued : (T : Tempo) (S : Scenario) (i : ℕ) (l : LinkNo) (items : L
 timely_queued T S i l items item log said timely before after is first later x inputs advance parts early = elim (last_or_before items item first (Step x inputs advance) later parts) [
   | inl t ↦ subst (λ (f : List Item). BeginsWith (all_frames S i f) (said_on l before)) t.0 (
     said_on l after ++ said.0,
-    said.1 ∙ ap (λ (b : List ℕ). b ++ said.0) (ap (said_on l) is ∙ said_more l before after) ∙ append_assoc (said_on l before) (said_on l after) said.0,
+    said.1 ∙ ap (λ (b : List ℕ). b ++ said.0) (ap (said_on l) is ∙ said-append l before after) ∙ append_assoc (said_on l before) (said_on l after) said.0,
   )
   | inr t ↦ timely before after is first t.0 x inputs advance t.1 early
 ]

@@ -21,7 +21,7 @@ use Rattle.mk_sched.specs.Answers.{IsAsked}
 use Rattle.mk_run_laws.specs.Crews.{CrewState, kept_of}
 use Rattle.mk_run_laws.specs.Handshake.{is_within}
 use Rattle.mk_run_laws.specs.inner.Running.{HasChannel}
-use Rattle.mk_run_laws.proofs.Stepping.{same_or_not, open_sent, sent_away, sent_here, got_sent}
+use Rattle.mk_run_laws.proofs.Stepping.{open_sent, sent_away, sent_here, got_sent, step_opens}
 use Rattle.mk_run_crew.specs.Seen.{CrewSeen, crew_of}
 use Rattle.mk_run.specs.inner.Sendings.{EndsWithItem}
 use Rattle.mk_run.specs.inner.Underway.{Setting, reply_in}
@@ -37,7 +37,8 @@ use Rattle.mk_pace_laws.specs.Moments.{Tempo, moment_at}
 use Rattle.mk_pace_loop.specs.inner.Pacing.{AreHeldItems, BeginsWithStep, IsHolding, IsOneAtMost, IsPacing, held_at, replies_kept}
 use Rattle.mk_pace_loop.specs.inner.Turns.{GoesOn}
 use Rattle.mk_pace_loop.specs.inner.Waiting.{DueAs, HasTime, IsHeldLast, WaitingSeen, waiting_seen}
-use Rattle.mk_pace_loop.proofs.Grown.{begins_push, changed_set, held_longer, held_push, kept_sent, moments_longer, naps_longer, none_pushed, none_shut, one_moved, step_opens}
+use Rattle.mk_pace_loop.proofs.Grown.{begins_push, changed_set, held_longer, held_push, kept_sent, moments_longer, naps_longer, none_pushed, none_shut, one_moved}
+use Rattle.mk_base.proofs.Counts.{same_or_not}
 
 module _ (S : Setting) (T : Tempo) (strict : Option ℕ) (P : Plan) (J : List Entry) (log : List LogEntry) (C : CrewState) (sims : List (Option Simulator)) (holds after : List (List Held)) (moments : List Moment) (p : IsPacing S P J log C sims (waiting_seen T strict holds moments))
     (s : SimNo) (x : Tier) (inputs : List Input) (advance : ℤ) (ready : IsReady P (view P J) s.0 x) (stands : Stands P (J ++ Sent s (Step x inputs advance) ∷ []))

@@ -5,6 +5,7 @@ use Rattle.mk_pace_held.specs.declared.held.Held.{Held}
 use Rattle.mk_pace_held.specs.Firsts.{IsChanged}
 use Rattle.mk_pace_loop.specs.inner.Sendings.{IsFewer, IsNoMore, held_count}
 use Rattle.mk_pace_loop.specs.inner.Waiting.{IsHeldAnew, IsOnTempo, WaitingSeen}
+use Rattle.mk_pace_loop.proofs.Turning.{on_tempo}
 
 same_count : (old new : List (List Held)) → ((i : ℕ) → slice_get new i ≡ slice_get old i) → held_count new ≡ held_count old
 same_count [] [] same = refl
@@ -45,9 +46,6 @@ taken_fewer s h q W V c = record { same = c.same; count = changed_less s h q W.h
 
 pub step_fewer : (s : ℕ) (h : Held) (q : List Held) (W V : WaitingSeen) → IsChanged s (h ∷ q) q W.holds V.holds → IsOnTempo W V → IsFewer W V
 step_fewer s h q W V c same = record { same = same; count = changed_less s h q W.holds V.holds c; sims = c.count }
-
-pub on_tempo : (A B D : WaitingSeen) → IsOnTempo A B → IsOnTempo B D → IsOnTempo A D
-on_tempo A B D one two = record { tempo = two.tempo ∙ one.tempo; strict = two.strict ∙ one.strict }
 
 pub fewer_then : (A B D : WaitingSeen) → IsFewer A B → IsNoMore B D → IsFewer A D
 fewer_then A B D one two = record { same = on_tempo A B D one.same two.same; count = below (held_count A.holds) (held_count B.holds) (held_count D.holds) one.count two.count; sims = two.sims ∙ one.sims }

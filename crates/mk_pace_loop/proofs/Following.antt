@@ -15,10 +15,8 @@ use Rattle.mk_plan.specs.Sequential.{takes_id, id_after}
 use Rattle.mk_message.specs.Written.{item_text}
 use Rattle.mk_frame.specs.Frames.{limit}
 use Rattle.mk_outside.specs.declared.fleet.LogEntry.{LogEntry}
-use Rattle.mk_sched.proofs.Pushed.{heads, not_empty}
 use Rattle.mk_run_laws.specs.Handshake.{is_within}
 use Rattle.mk_run_laws.specs.Channels.{Channel}
-use Rattle.mk_run_laws.proofs.Stepping.{same_or_not}
 use Rattle.mk_run_links.specs.Crews.{IsLengthOf}
 use Rattle.mk_run_local.specs.Laws.{RepliesAreKinds}
 use Rattle.mk_run_crew.specs.declared.halt.Halt.{Halt}
@@ -46,6 +44,8 @@ use Rattle.mk_pace_loop.specs.inner.Waiting.{DueAs, waiting_seen}
 use Rattle.mk_pace_loop.proofs.HeldFirst.{IsFront, front_is}
 use Rattle.mk_pace_loop.proofs.OneSent.{can_take, sent_on}
 use Rattle.mk_pace_loop.proofs.Placed.{sent_at}
+use Rattle.mk_base.proofs.Counts.{same_or_not}
+use Rattle.mk_base.proofs.Items.{not_empty, same_heads}
 
 -- ---- an item that is no Step
 
@@ -56,8 +56,8 @@ no_step T (Answer id content) due is none = refl
 no_step T (Refuse id reason) due is none = refl
 
 none_told : (T : Tempo) (log : List LogEntry) (item : Item) → is_step item ≡ false → AreTold T log (item ∷ [])
-none_told T log item late [] later x inputs advance parts = absurd (true≢false (ap is_step (sym (heads parts).0) ∙ late))
-none_told T log item late (d ∷ first) later x inputs advance parts = absurd (not_empty first later (Step x inputs advance) (heads parts).1)
+none_told T log item late [] later x inputs advance parts = absurd (true≢false (ap is_step (sym (same_heads parts).0) ∙ late))
+none_told T log item late (d ∷ first) later x inputs advance parts = absurd (not_empty first later (Step x inputs advance) (same_heads parts).1)
 
 pub steps_pushed : (queued : List Item) (item : Item) → is_step item ≡ false → length (filter is_step (queued ++ item ∷ [])) ≡ length (filter is_step queued)
 steps_pushed queued item late = ap (λ (l : List Item). length l) (filter_append is_step queued (item ∷ []) ∙ ap (λ (b : Bool). filter is_step queued ++ (if b then item ∷ [] else [])) late ∙ append_nil (filter is_step queued))

@@ -18,7 +18,7 @@ use Rattle.mk_outside.specs.declared.fleet.LogEntry.{LogEntry}
 use Rattle.mk_scenario.specs.declared.parts.Scenario.{Scenario}
 use Rattle.mk_run_laws.specs.Handshake.{is_within}
 use Rattle.mk_run_laws.specs.Running.{BeginsOnLink, SetupReplies}
-use Rattle.mk_run_laws.proofs.Stepping.{apart_is, same_is, open_got, open_sent, sent_away, sent_got}
+use Rattle.mk_run_laws.proofs.Stepping.{open_got, open_sent, sent_away, sent_got}
 use Rattle.mk_run.specs.inner.Underway.{Setting, reply_in}
 use Rattle.mk_pace_held.specs.declared.held.Due.{Due}
 use Rattle.mk_pace_held.specs.declared.held.Held.{Held}
@@ -27,6 +27,7 @@ use Rattle.mk_pace_laws.specs.declared.end.Moment.{Moment}
 use Rattle.mk_pace_laws.specs.Moments.{AreMoments, Tempo, moments_of, step_time}
 use Rattle.mk_pace_laws.specs.Naps.{AreNaps}
 use Rattle.mk_pace_loop.specs.inner.Pacing.{AreHeldItems, BeginsWithStep, IsHeldItem, IsOneAtMost, replies_kept}
+use Rattle.mk_base.proofs.Counts.{not_same, same_self}
 
 -- ---- places
 
@@ -106,12 +107,6 @@ module _ (T : Tempo) (strict : Option ℕ) (J K : List Entry) (log : List LogEnt
   }
 
 -- ---- what is open at others
-
-open_away : (P : Plan) (V : View) (s : ℕ) (o : Option OpenTurn) (i : ℕ) → (i ≡ s → ⊥) → with_open V s o i ≡ V.open_at i
-open_away P V s o i n = ap (λ (b : Bool). if b then o else V.open_at i) (apart_is i s n)
-
-pub step_opens : (P : Plan) (J : List Entry) (s : SimNo) (x : Tier) (ins : List Input) (advance : ℤ) → is_some ((view P (J ++ Sent s (Step x ins advance) ∷ [])).open_at s.0) ≡ true
-step_opens P J s x ins advance = ap (λ (V : View). is_some (V.open_at s.0)) (view_push P J (Sent s (Step x ins advance))) ∙ ap (λ (b : Bool). is_some (if b then open_after P (view P J) s.0 (Step x ins advance) else (view P J).open_at s.0)) (same_is s.0)
 
 -- ---- what is kept
 

@@ -11,9 +11,7 @@ use Rattle.mk_plan.specs.declared.Plan.{Plan}
 use Rattle.mk_plan.specs.Journals.{sent}
 use Rattle.mk_outside.specs.declared.fleet.LogEntry.{LogEntry}
 use Rattle.mk_local.specs.Simulators.{Simulator}
-use Rattle.mk_sched.proofs.Pushed.{heads}
 use Rattle.mk_run_laws.specs.Crews.{CrewState}
-use Rattle.mk_run_laws.proofs.Stepping.{same_or_not}
 use Rattle.mk_run.specs.inner.Underway.{Setting}
 use Rattle.mk_pace_held.specs.declared.held.Due.{Due}
 use Rattle.mk_pace_held.specs.declared.held.First.{First}
@@ -23,6 +21,8 @@ use Rattle.mk_pace_laws.specs.declared.end.Moment.{Moment}
 use Rattle.mk_pace_laws.specs.Moments.{Tempo, moment_at}
 use Rattle.mk_pace_loop.specs.inner.Pacing.{AreHeldItems, BeginsWithStep, IsHeldItem, IsHolding, IsPacing, IsPacingBut, IsPacingFor}
 use Rattle.mk_pace_loop.specs.inner.Waiting.{DueAs, waiting_seen}
+use Rattle.mk_base.proofs.Counts.{same_or_not}
+use Rattle.mk_base.proofs.Items.{same_heads}
 
 -- behind what was queued of simulator s this item waits first, and then the rest
 pub record IsFront (P : Plan) (T : Tempo) (J : List Entry) (s : ℕ) (queued waiting : List Item) (h : Held) (q : List Held) (item : Item) (rest : List Item) : Type 0 where
@@ -77,7 +77,7 @@ pub first_taken : (f : First) (holds : List (List Held)) (h : Held) (q : List He
 first_taken f holds h q first there =
     let t = first_parts f.sim first.items f first.here in
     let same : h ∷ q ≡ t.held ∷ t.rest = some_same (sym there ∙ first.there) ∙ t.is in
-    ap (λ (g : Held). g.due) (heads same).0 ∙ t.due
+    ap (λ (g : Held). g.due) (same_heads same).0 ∙ t.due
 
 pub first_some : (f : First) (holds : List (List Held)) → IsFirst f holds → slice_get holds f.sim.0 ≡ Some [] → ⊥
 first_some f holds first there =

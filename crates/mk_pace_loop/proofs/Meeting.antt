@@ -14,9 +14,7 @@ use Rattle.mk_plan.specs.Sequential.{takes_id}
 use Rattle.mk_order.proofs.Pushing.{got_push}
 use Rattle.mk_outside.specs.declared.fleet.LogEntry.{LogEntry}
 use Rattle.mk_outside.specs.declared.fleet.LogEntry.TheVariants.{Nap}
-use Rattle.mk_message.specs.Written.{is_in_range}
 use Rattle.mk_local.specs.Simulators.{Simulator}
-use Rattle.mk_sched.specs.Cores.{is_message_in_range}
 use Rattle.mk_sched.specs.Answers.{SomeReady}
 use Rattle.mk_run_laws.specs.Handshake.{is_within, sim_link}
 use Rattle.mk_run_laws.specs.Kinds.{IsKindReply, KeepsToKinds, Replies}
@@ -24,15 +22,15 @@ use Rattle.mk_run_laws.specs.Channels.{Channel}
 use Rattle.mk_run_laws.specs.Crews.{CrewState, IsHeard, IsMovedAt, given_by, kept_of, channel_at}
 use Rattle.mk_run_laws.specs.Running.{BeginsOnLink}
 use Rattle.mk_run_laws.specs.inner.Running.{HasChannel}
-use Rattle.mk_run_laws.proofs.Stepping.{apart_is, same_is, same_or_not, sent_got}
+use Rattle.mk_run_laws.proofs.Stepping.{sent_got, got_given, given_here, given_away}
 use Rattle.mk_run_laws.proofs.Moving.{moved_none}
 use Rattle.mk_run_links.specs.Entries.{AreOfLinks, IsRunLink}
 use Rattle.mk_run_links.proofs.OnEntries.{no_clock}
 use Rattle.mk_run_local.specs.Calls.{IsFitSuccess}
 use Rattle.mk_run.specs.inner.Underway.{HasNoOther, Setting, reply_in}
-use Rattle.mk_run.proofs.InRange.{same_test, success_in_range}
+use Rattle.mk_run.proofs.InRange.{success_in_range}
 use Rattle.mk_run.proofs.Linked.{linked_outside, no_other_heard, within_below}
-use Rattle.mk_sched.proofs.Pushed.{heads, last_or_before}
+use Rattle.mk_sched.proofs.Pushed.{last_or_before}
 use Rattle.mk_run.proofs.Hearing.{taken_read}
 use Rattle.mk_pace_held.specs.declared.held.Held.{Held}
 use Rattle.mk_pace_laws.specs.declared.end.Moment.{Moment}
@@ -44,19 +42,9 @@ use Rattle.mk_pace_loop.specs.inner.Waiting.{waiting_seen}
 use Rattle.mk_pace_loop.proofs.Grown.{moments_longer, naps_longer}
 use Rattle.mk_pace_loop.proofs.Passing.{looks_later, moments_later, naps_later, no_naps}
 use Rattle.mk_pace_loop.proofs.Queueing.{has_channel_moved}
-
--- what a journal has got with one message more
-pub got_given : (J : List Entry) (s : SimNo) (m : Message) (i : ℕ) → got (J ++ Got s m ∷ []) i ≡ got J i ++ given_by s.0 m i
-got_given J s m i = got_push J (Got s m) i ∙ elim (s.0 == i) as (λ b. got J i ++ cons_option (if b then Some m else None) [] ≡ got J i ++ (if b then m ∷ [] else [])) [
-  | true ↦ refl
-  | false ↦ refl
-]
-
-pub given_here : (s : ℕ) (m : Message) → given_by s m s ≡ m ∷ []
-given_here s m = ap (λ (b : Bool). if b then m ∷ [] else []) (same_is s)
-
-given_away : (s : ℕ) (m : Message) (i : ℕ) → (i ≡ s → ⊥) → given_by s m i ≡ []
-given_away s m i apart = ap (λ (b : Bool). if b then m ∷ [] else []) (apart_is s i (λ q. apart (sym q)))
+use Rattle.mk_base.proofs.Counts.{not_same, same_or_not, same_self}
+use Rattle.mk_base.proofs.Items.{same_heads}
+use Rattle.mk_plan.specs.Messages.{is_message_in_range}
 
 not_nil : {X : Type 0} {x : X} {xs : List X} → x ∷ xs ≡ [] → ⊥
 not_nil e = cc
@@ -93,15 +81,15 @@ taken_reply S P J s m [] left e = by_cases (is_within S.scenario s) ((view P J).
       inside = inside;
       opened = ap (λ (o : Option OpenTurn). is_some o) opened;
       none_held = refl;
-      is_kind = record { is = (heads h).0; open_there = λ shut. none_some (sym shut ∙ opened) };
-      none_left = (heads h).1;
+      is_kind = record { is = (same_heads h).0; open_there = λ shut. none_some (sym shut ∙ opened) };
+      none_left = (same_heads h).1;
     }
 
 module _ (S : Setting) (T : Tempo) (strict : Option ℕ) (P : Plan) (J : List Entry) (before entries : List LogEntry) (C D : CrewState) (sims : List (Option Simulator)) (holds : List (List Held)) (moments : List Moment) (p : IsPacing S P J before C sims (waiting_seen T strict holds moments))
     (s : SimNo) (m : Message) (nobody : SomeReady P J → ⊥) (of_links : AreOfLinks (IsRunLink S.started S.scenario) entries) (fit : (k : Arrival) (more : List Arrival) → C.kept ≡ k ∷ more → IsFitSuccess m) (heard : IsHeard entries s.0 m C D) where
   -- where it was kept
   pub taken_kept : C.kept ≡ record { sim = s.0; message = m } ∷ D.kept → IsTakenReply S P J s.0 m (held_at holds s.0) (kept_of s.0 D.kept)
-  taken_kept is = taken_reply S P J s.0 m (held_at holds s.0) (kept_of s.0 D.kept) (ap (λ (b : Bool). cons_option (if b then Some m else None) (kept_of s.0 D.kept)) (sym (same_is s.0)) ∙ ap (kept_of s.0) (sym is) ∙ p.kept s.0)
+  taken_kept is = taken_reply S P J s.0 m (held_at holds s.0) (kept_of s.0 D.kept) (ap (λ (b : Bool). cons_option (if b then Some m else None) (kept_of s.0 D.kept)) (sym (same_self s.0)) ∙ ap (kept_of s.0) (sym is) ∙ p.kept s.0)
 
   -- where it is of a link
   linked_out : (w : Channel) → channel_at C s.0 ≡ Some w → is_within S.scenario s.0 ≡ false
@@ -119,20 +107,20 @@ module _ (S : Setting) (T : Tempo) (strict : Option ℕ) (P : Plan) (J : List En
       go (IsHeard.on_link none after w there moved parked) = let t = p.no_other s.0 w there in in_plan (linked_outside S.started S.scenario s.0 t.0 t.1).1
 
   -- its numbers are in range
-  pub met_fits : is_in_range m ≡ true
+  pub met_fits : is_message_in_range m ≡ true
   met_fits = go heard
     where
-      by_channel : (o q : Option Channel) (w : Channel) → o ≡ Some w → IsMovedAt entries (given_by s.0 m s.0) o q → is_in_range m ≡ true
+      by_channel : (o q : Option Channel) (w : Channel) → o ≡ Some w → IsMovedAt entries (given_by s.0 m s.0) o q → is_message_in_range m ≡ true
       by_channel None q w e moved = absurd (none_some e)
       by_channel (Some v) None w e moved = absurd moved
       by_channel (Some v) (Some x) w e moved = taken_read _ (given_by s.0 m s.0) _ m moved.taken (given_here s.0 m)
 
-      go : IsHeard entries s.0 m C D → is_in_range m ≡ true
+      go : IsHeard entries s.0 m C D → is_message_in_range m ≡ true
       go (IsHeard.kept is channels none) = success_in_range m (fit (record { sim = s.0; message = m }) D.kept is)
       go (IsHeard.on_link none after w there moved parked) = by_channel (channel_at C s.0) (channel_at D s.0) w there (moved s.0)
 
   pub met_in_range : is_message_in_range m ≡ true
-  met_in_range = same_test m met_fits
+  met_in_range = met_fits
 
   -- that of a simulator within the program is a success, and nothing of it is held
   pub met_within : is_within S.scenario s.0 ≡ true → IsFitSuccess m × (held_at holds s.0 ≡ [])
@@ -181,7 +169,7 @@ module _ (S : Setting) (T : Tempo) (strict : Option ℕ) (P : Plan) (J : List En
   met_kept_away i apart = go heard
     where
       go : IsHeard entries s.0 m C D → kept_of i D.kept ≡ kept_of i C.kept
-      go (IsHeard.kept is channels none) = ap (λ (b : Bool). cons_option (if b then Some m else None) (kept_of i D.kept)) (sym (apart_is s.0 i (λ q. apart (sym q)))) ∙ ap (kept_of i) (sym is)
+      go (IsHeard.kept is channels none) = ap (λ (b : Bool). cons_option (if b then Some m else None) (kept_of i D.kept)) (sym (not_same s.0 i (λ q. apart (sym q)))) ∙ ap (kept_of i) (sym is)
       go (IsHeard.on_link none after w there moved parked) = ap (kept_of i) (after ∙ sym none)
 
   pub met_kinds : KeepsToKinds (reply_in S) (is_within S.scenario) P (J ++ Got s m ∷ [])
@@ -207,7 +195,7 @@ module _ (S : Setting) (T : Tempo) (strict : Option ℕ) (P : Plan) (J : List En
       here inside (IsHeard.kept is channels none) =
           let counted = p.replied s.0 inside in
           let one : length (kept_of s.0 C.kept) ≡ suc (length (kept_of s.0 D.kept)) =
-          ap (λ (k : List Arrival). length (kept_of s.0 k)) is ∙ ap (λ (b : Bool). length (cons_option (if b then Some m else None) (kept_of s.0 D.kept))) (same_is s.0) in
+          ap (λ (k : List Arrival). length (kept_of s.0 k)) is ∙ ap (λ (b : Bool). length (cons_option (if b then Some m else None) (kept_of s.0 D.kept))) (same_self s.0) in
           let more : length (got (J ++ Got s m ∷ []) s.0) ≡ length (got J s.0) + 1 = ap length (got_given J s m s.0 ∙ ap (λ (l : List Message). got J s.0 ++ l) (given_here s.0 m)) ∙ length-append (got J s.0) (m ∷ []) in
           omega (arith, counted, one, more)
       here inside (IsHeard.on_link none after w there moved parked) = absurd (true≢false (sym inside ∙ linked_out w there))

@@ -11,18 +11,14 @@ use Rattle.mk_plan.specs.Journals.{sent}
 use Rattle.mk_plan.specs.Report.{is_step}
 use Rattle.mk_outside.specs.declared.fleet.LogEntry.{LogEntry}
 use Rattle.mk_outside.specs.declared.fleet.LogEntry.TheVariants.{Told}
-use Rattle.mk_sched.proofs.Pushed.{heads}
-use Rattle.mk_run_laws.proofs.Stepping.{apart_is, same_is, same_or_not}
 use Rattle.mk_pace_laws.specs.declared.end.Moment.{Moment}
 use Rattle.mk_pace_laws.specs.Clocks.{last_told}
 use Rattle.mk_pace_laws.specs.Moments.{AreMoments, Tempo, is_of, moment_at, moments_of, step_time}
 use Rattle.mk_pace_laws.proofs.Ordering.{in_order_pushed}
+use Rattle.mk_base.proofs.Items.{each_behind, length_map, same_heads}
+use Rattle.mk_base.proofs.Counts.{not_same, same_or_not, same_self}
 
 -- ---- lists
-
-each_pushed : {X : Type 0} (Q : X → Type 0) (xs : List X) (x : X) → Each Q xs → Q x → Each Q (xs ++ x ∷ [])
-each_pushed Q [] x all one = (one, tt)
-each_pushed Q (y ∷ xs) x all one = (all.0, each_pushed Q xs x all.1 one)
 
 -- beginnings of the same length
 same_front : {X : Type 0} (a b c d : List X) → a ++ b ≡ c ++ d → length a ≡ length c → (a ≡ c) × (b ≡ d)
@@ -30,8 +26,8 @@ same_front [] b [] d e long = (refl, e)
 same_front [] b (z ∷ c) d e long = absurd (omega (arith, long))
 same_front (x ∷ a) b [] d e long = absurd (omega (arith, long))
 same_front (x ∷ a) b (z ∷ c) d e long =
-    let t = same_front a b c d (heads e).1 (omega (arith, long)) in
-    let first : x ≡ z = (heads e).0 in
+    let t = same_front a b c d (same_heads e).1 (omega (arith, long)) in
+    let first : x ≡ z = (same_heads e).0 in
     ((λ i. first i ∷ t.0 i), t.1)
 
 -- each Step has one time
@@ -42,17 +38,13 @@ step_times (GetData wanted ∷ items) = step_times items
 step_times (Answer id content ∷ items) = step_times items
 step_times (Refuse id reason ∷ items) = step_times items
 
-mapped_length : {X Y : Type 0} (f : X → Y) (xs : List X) → length (map f xs) ≡ length xs
-mapped_length f [] = refl
-mapped_length f (x ∷ xs) = ap suc (mapped_length f xs)
-
 -- ---- the moments of one simulator
 
 pub moments_here : (moments : List Moment) (m : Moment) → moments_of m.sim.0 (moments ++ m ∷ []) ≡ moments_of m.sim.0 moments ++ m ∷ []
-moments_here moments m = filter_append (is_of m.sim.0) moments (m ∷ []) ∙ ap (λ (b : Bool). moments_of m.sim.0 moments ++ (if b then m ∷ [] else [])) (same_is m.sim.0)
+moments_here moments m = filter_append (is_of m.sim.0) moments (m ∷ []) ∙ ap (λ (b : Bool). moments_of m.sim.0 moments ++ (if b then m ∷ [] else [])) (same_self m.sim.0)
 
 pub moments_away : (moments : List Moment) (m : Moment) (i : ℕ) → (i ≡ m.sim.0 → ⊥) → moments_of i (moments ++ m ∷ []) ≡ moments_of i moments
-moments_away moments m i apart = filter_append (is_of i) moments (m ∷ []) ∙ ap (λ (b : Bool). moments_of i moments ++ (if b then m ∷ [] else [])) (apart_is m.sim.0 i (λ e. apart (sym e))) ∙ append_nil (moments_of i moments)
+moments_away moments m i apart = filter_append (is_of i) moments (m ∷ []) ∙ ap (λ (b : Bool). moments_of i moments ++ (if b then m ∷ [] else [])) (not_same m.sim.0 i (λ e. apart (sym e))) ∙ append_nil (moments_of i moments)
 
 module _ (T : Tempo) (strict : Option ℕ) (J : List Entry) (log : List LogEntry) (moments : List Moment) (m : Moment) (queued more : List Item) (inputs : List Input) (advance : ℤ) (are : AreMoments T strict J log moments)
     (count : length (moments_of m.sim.0 moments) ≡ length (filter is_step queued)) (next : sent J m.sim.0 ≡ queued ++ Step m.at inputs advance ∷ more) where
@@ -63,7 +55,7 @@ module _ (T : Tempo) (strict : Option ℕ) (J : List Entry) (log : List LogEntry
       let times : List Tier = map (λ (k : Moment). k.at) (moments_of s moments) in
       let all : filter_map step_time (sent J s) ≡ filter_map step_time queued ++ (m.at ∷ filter_map step_time more) = ap (filter_map step_time) next ∙ filter_map_append step_time queued (Step m.at inputs advance ∷ more) in
       let old = are.steps s in
-      let long : length times ≡ length (filter_map step_time queued) = mapped_length (λ (k : Moment). k.at) (moments_of s moments) ∙ count ∙ sym (step_times queued) in
+      let long : length times ≡ length (filter_map step_time queued) = length_map (λ (k : Moment). k.at) (moments_of s moments) ∙ count ∙ sym (step_times queued) in
       let parts = same_front times old.0 (filter_map step_time queued) (m.at ∷ filter_map step_time more) (sym old.1 ∙ all) long in (
         filter_map step_time more,
         old.1 ∙ ap (λ (l : List Tier). times ++ l) parts.1 ∙ sym (ap (λ (l : List Moment). map (λ (k : Moment). k.at) l ++ filter_map step_time more) (moments_here moments m)
@@ -80,9 +72,9 @@ module _ (T : Tempo) (strict : Option ℕ) (J : List Entry) (log : List LogEntry
       | inl e ↦ subst (λ (k : ℕ). BeginsWith (filter_map step_time (sent J k)) (map (λ (k : Moment). k.at) (moments_of k (moments ++ m ∷ [])))) (sym e) steps_here
       | inr apart ↦ steps_away i apart
     ];
-    moment = each_pushed (λ (k : Moment). k.moment ≡ moment_at T k.at.time) moments m are.moment is;
-    due = each_pushed (λ (k : Moment). k.moment ≤ k.told) moments m are.due due;
-    told = each_pushed (λ (k : Moment). IsIn (Told k.told) log) moments m are.told there;
-    in_time = λ allowed bound. each_pushed (λ (k : Moment). k.told ≤ k.moment + allowed) moments m (are.in_time allowed bound) (in_time allowed bound);
+    moment = each_behind (λ (k : Moment). k.moment ≡ moment_at T k.at.time) moments m are.moment is;
+    due = each_behind (λ (k : Moment). k.moment ≤ k.told) moments m are.due due;
+    told = each_behind (λ (k : Moment). IsIn (Told k.told) log) moments m are.told there;
+    in_time = λ allowed bound. each_behind (λ (k : Moment). k.told ≤ k.moment + allowed) moments m (are.in_time allowed bound) (in_time allowed bound);
     in_order = in_order_pushed log moments m are.told last are.in_order;
   }

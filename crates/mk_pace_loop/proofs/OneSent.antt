@@ -24,7 +24,6 @@ use Rattle.mk_run_laws.specs.Rests.{all_frames}
 use Rattle.mk_run_laws.specs.Running.{IsInStep}
 use Rattle.mk_run_laws.specs.inner.Running.{HasChannel, awaited}
 use Rattle.mk_run_laws.proofs.Saying.{link_there}
-use Rattle.mk_run_laws.proofs.Stepping.{apart_is, same_is, same_or_not}
 use Rattle.mk_run_local.specs.Laws.{RepliesAreKinds}
 use Rattle.mk_run_crew.specs.Seen.{CrewSeen, crew_of, is_here}
 use Rattle.mk_run_crew.specs.Calls.{SendsAs}
@@ -45,13 +44,8 @@ use Rattle.mk_pace_loop.specs.inner.Pacing.{AreHeldItems, IsHolding, IsOneAtMost
 use Rattle.mk_pace_loop.specs.inner.Waiting.{waiting_seen}
 use Rattle.mk_pace_loop.proofs.HeldFirst.{IsFront}
 use Rattle.mk_pace_loop.proofs.Queueing.{channel_sent}
-
--- what takes a reply takes an id
-pub replied_takes : (item : Item) → IsItemReplied item → takes_id item ≡ true
-replied_takes (Step x inputs advance) r = refl
-replied_takes (GetData wanted) r = refl
-replied_takes (Answer id content) r = absurd r
-replied_takes (Refuse id reason) r = absurd r
+use Rattle.mk_base.proofs.Counts.{not_same, same_or_not, same_self}
+use Rattle.mk_local.proofs.Replied.{replied_takes}
 
 not_nil : {X : Type 0} {x : X} {xs : List X} → [] ≡ x ∷ xs → ⊥
 not_nil e = cc
@@ -158,7 +152,7 @@ module _ (S : Setting) (T : Tempo) (strict : Option ℕ) (P : Plan) (J : List En
     kept_here here =
         let k = kept_so S law p.queued Y s item h.id C D more stay p.come p.only_within right so here in
         ap (kept_of s) k.1.kept ∙ filter_map_append (kept_from s) C.kept (record { sim = s; message = reply_in S s (map bare (Y s)) } ∷ [])
-        ∙ ap (λ (b : Bool). kept_of s C.kept ++ cons_option (if b then Some (reply_in S s (map bare (Y s))) else None) []) (same_is s)
+        ∙ ap (λ (b : Bool). kept_of s C.kept ++ cons_option (if b then Some (reply_in S s (map bare (Y s))) else None) []) (same_self s)
 
     kept_away : (away : is_here C s ≡ false) → D.kept ≡ C.kept
     kept_away away = (so.on_link away).0.kept
@@ -168,7 +162,7 @@ module _ (S : Setting) (T : Tempo) (strict : Option ℕ) (P : Plan) (J : List En
         (λ here.
         let k = kept_so S law p.queued Y s item h.id C D more stay p.come p.only_within right so here in
         ap (kept_of i) k.1.kept ∙ filter_map_append (kept_from i) C.kept (record { sim = s; message = reply_in S s (map bare (Y s)) } ∷ [])
-        ∙ ap (λ (b : Bool). kept_of i C.kept ++ cons_option (if b then Some (reply_in S s (map bare (Y s))) else None) []) (apart_is s i (λ e. apart (sym e))) ∙ append_nil (kept_of i C.kept))
+        ∙ ap (λ (b : Bool). kept_of i C.kept ++ cons_option (if b then Some (reply_in S s (map bare (Y s))) else None) []) (not_same s i (λ e. apart (sym e))) ∙ append_nil (kept_of i C.kept))
         (λ away. ap (kept_of i) (kept_away away))
 
     -- nothing was kept of it

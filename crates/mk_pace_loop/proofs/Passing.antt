@@ -15,7 +15,6 @@ use Rattle.mk_scenario.specs.declared.parts.Scenario.{Scenario}
 use Rattle.mk_outside.specs.declared.fleet.LogEntry.{LogEntry}
 use Rattle.mk_outside.specs.declared.fleet.LogEntry.TheVariants.{NotHeard, Rest, Told, Nap}
 use Rattle.mk_outside.specs.Logs.{last_read}
-use Rattle.mk_sched.proofs.Pushed.{heads}
 use Rattle.mk_local.specs.Simulators.{Simulator}
 use Rattle.mk_run_laws.specs.Crews.{CrewState, AreMoved, IsMovedAt, IsRestless, IsUnheard, kept_of, channel_at}
 use Rattle.mk_run_laws.specs.Handshake.{has_link, sim_link}
@@ -23,7 +22,7 @@ use Rattle.mk_run_laws.specs.Channels.{Channel}
 use Rattle.mk_run_laws.specs.Rests.{AllSetUp, IsWellInSetup}
 use Rattle.mk_run_laws.specs.Running.{SetupReplies}
 use Rattle.mk_run_laws.specs.inner.Running.{HasChannel}
-use Rattle.mk_run_laws.proofs.Stepping.{first_or_second, not_empty}
+use Rattle.mk_run_laws.proofs.Stepping.{first_or_second}
 use Rattle.mk_run_laws.proofs.Moving.{moved_none}
 use Rattle.mk_run_links.specs.Entries.{AreOfLinks, AreOnOrOfClock, IsClockless, IsNotOfClock, IsRunLink}
 use Rattle.mk_run_links.specs.Places.{IsChannelLink}
@@ -40,19 +39,21 @@ use Rattle.mk_pace_loop.specs.inner.Waiting.{waiting_seen}
 use Rattle.mk_pace_loop.proofs.Queueing.{has_channel_moved, nap_moved, told_moved}
 use Rattle.mk_pace_laws.proofs.Ordering.{in_order_later}
 use Rattle.mk_pace_laws.proofs.Timely.{timely_more, told_later}
+use Rattle.mk_base.proofs.Items.{not_empty, same_heads}
+use Rattle.mk_run_crew.proofs.Halting.{RestRight}
 
 -- ---- entries
 
 -- one entry has no other among it
-alone : (e r : LogEntry) (less after : List LogEntry) → (e ≡ r → ⊥) → e ∷ [] ≡ less ++ r ∷ after → ⊥
-alone e r [] after apart is = apart (heads is).0
-alone e r (x ∷ less) after apart is = not_empty less after r (heads is).1
+pub alone : (e r : LogEntry) (less after : List LogEntry) → (e ≡ r → ⊥) → e ∷ [] ≡ less ++ r ∷ after → ⊥
+alone e r [] after apart is = apart (same_heads is).0
+alone e r (x ∷ less) after apart is = not_empty less after r (same_heads is).1
 
 -- entries among which no clock was looked at have no nap
 pub no_naps : (entries less after : List LogEntry) → IsClockless entries → entries ≡ less ++ Nap ∷ after → ⊥
 no_naps [] less after all is = not_empty less after Nap is
-no_naps (e ∷ entries) [] after all is = subst IsNotOfClock (heads is).0 all.0
-no_naps (e ∷ entries) (x ∷ less) after all is = no_naps entries less after all.1 (heads is).1
+no_naps (e ∷ entries) [] after all is = subst IsNotOfClock (same_heads is).0 all.0
+no_naps (e ∷ entries) (x ∷ less) after all is = no_naps entries less after all.1 (same_heads is).1
 
 -- ---- moments
 
@@ -75,13 +76,10 @@ origin_later started S log entries n o = record {
   awake = o.awake;
 }
 
-abbrev RestsInSetup : ℕ → Scenario → List LogEntry → Type 0
-RestsInSetup started S log = (before after : List LogEntry) → log ≡ before ++ Rest ∷ after → IsWellInSetup started S before × (AllSetUp started S before → ⊥)
-
 pub on_later : (started : ℕ) (S : Scenario) (log entries : List LogEntry) → AreOnOrOfClock (IsRunLink started S) log → AreOfLinks (IsRunLink started S) entries → AreOnOrOfClock (IsRunLink started S) (log ++ entries)
 on_later started S log entries on of = or_clock_more (IsRunLink started S) log entries on (on_or_clock (IsRunLink started S) entries (on_these (IsRunLink started S) entries of))
 
-pub setup_later : (started : ℕ) (S : Scenario) (log entries : List LogEntry) → IsRestless entries → RestsInSetup started S log → RestsInSetup started S (log ++ entries)
+pub setup_later : (started : ℕ) (S : Scenario) (log entries : List LogEntry) → IsRestless entries → RestRight started S log → RestRight started S (log ++ entries)
 setup_later started S log entries restless rests before after is = elim (first_or_second log entries before after Rest is) [
   | inl t ↦ rests before t.0 t.1
   | inr t ↦ absurd (restless t.0 after t.2)
@@ -196,7 +194,7 @@ module _ (S : Setting) (T : Tempo) (strict : Option ℕ) (P : Plan) (J : List En
     where
       ends : (less after before : List LogEntry) → Nap ∷ [] ≡ less ++ Nap ∷ after → before ≡ log ++ less → before ≡ log
       ends [] after before is q = q ∙ append_nil log
-      ends (x ∷ less) after before is q = absurd (not_empty less after Nap (heads is).1)
+      ends (x ∷ less) after before is q = absurd (not_empty less after Nap (same_heads is).1)
 
       naps : AreAllLinked S.scenario → AreNaps S.started S.scenario S.replies P T J (log ++ Nap ∷ [])
       naps linked before after is = elim (first_or_second log (Nap ∷ []) before after Nap is) [

@@ -38,14 +38,6 @@ two_places (x ∷ J) i zero e d here there less = absurd (omega (arith, less))
 two_places (x ∷ J) zero (suc k) e d here there less = let t = split_at J k d there in ([], t.0, t.1, ap (λ (l : List _). x ∷ l) t.2 ∙ ap (λ (y : _). y ∷ (t.0 ++ d ∷ t.1)) (some_same here))
 two_places (x ∷ J) (suc i) (suc k) e d here there less = let t = two_places J i k e d here there (omega (arith, less)) in (x ∷ t.0, t.1, t.2, ap (λ (l : List _). x ∷ l) t.3)
 
--- what is behind the same beginning
-pub behind_same : {X : Type 0} (a b c : List X) → a ++ b ≡ a ++ c → b ≡ c
-behind_same [] b c e = e
-behind_same (x ∷ a) b c e = behind_same a b c (tails e)
-  where
-    tails : {Y : Type 0} {y : Y} {ys zs : List Y} → y ∷ ys ≡ y ∷ zs → ys ≡ zs
-    tails e = cc
-
 -- ---- an item that a simulator is sent
 
 pub record IsSentAt (J : List Entry) (i : ℕ) (first : List Item) (item : Item) : Type 0 where

@@ -7,11 +7,11 @@ use Rattle.mk_outside.specs.declared.fleet.LogEntry.TheVariants.{Nap, Told}
 use Rattle.mk_outside.specs.declared.paced.Now.TheVariants as now
 use Rattle.mk_outside.specs.Fleets.{IsTold}
 use Rattle.mk_outside.specs.Logs.{Adds, greatest_told, told_by}
-use Rattle.mk_sched.proofs.Pushed.{heads}
-use Rattle.mk_run_laws.proofs.Stepping.{first_or_second, not_empty}
+use Rattle.mk_run_laws.proofs.Stepping.{first_or_second}
 use Rattle.mk_run_links.specs.Entries.{IsClockless, IsNotOfClock}
 use Rattle.mk_pace_laws.specs.Clocks.{IsRising}
 use Rattle.mk_pace_loop.specs.inner.Turns.{RisesOn}
+use Rattle.mk_base.proofs.Items.{not_empty, same_heads}
 
 -- one log, and then another
 pub rises_none : (log : Option (List LogEntry)) → RisesOn log log
@@ -37,10 +37,10 @@ rises_on old (Some between) (Some after) (b, first, was, grew, rising) (c, secon
     )
 
 -- entries by which no clock was looked at
-no_told : (entries less after : List LogEntry) (n : ℕ) → IsClockless entries → entries ≡ less ++ Told n ∷ after → ⊥
+pub no_told : (entries less after : List LogEntry) (n : ℕ) → IsClockless entries → entries ≡ less ++ Told n ∷ after → ⊥
 no_told [] less after n all is = not_empty less after (Told n) is
-no_told (e ∷ entries) [] after n all is = subst IsNotOfClock (heads is).0 all.0
-no_told (e ∷ entries) (x ∷ less) after n all is = no_told entries less after n all.1 (heads is).1
+no_told (e ∷ entries) [] after n all is = subst IsNotOfClock (same_heads is).0 all.0
+no_told (e ∷ entries) (x ∷ less) after n all is = no_told entries less after n all.1 (same_heads is).1
 
 rises_by : (entries : List LogEntry) (old new : Option (List LogEntry)) → Adds entries old new → ((less after : List LogEntry) (n : ℕ) → entries ≡ less ++ Told n ∷ after → ⊥) → RisesOn old new
 rises_by entries old None adds none = tt
@@ -57,8 +57,8 @@ nap_rises old new adds = rises_by (Nap ∷ []) old new adds none
     apart n e = cc
 
     none : (less after : List LogEntry) (n : ℕ) → Nap ∷ [] ≡ less ++ Told n ∷ after → ⊥
-    none [] after n is = apart n (heads is).0
-    none (x ∷ less) after n is = not_empty less after (Told n) (heads is).1
+    none [] after n is = apart n (same_heads is).0
+    none (x ∷ less) after n is = not_empty less after (Told n) (same_heads is).1
 
 -- a look at a clock that doesn't go back
 pub told_rises : (told : ℕ) (old new : Option (List LogEntry)) → IfSome old (λ before. IsTold (now.At told) (greatest_told before)) → Adds (Told told ∷ []) old new → RisesOn old new
@@ -76,11 +76,11 @@ told_rises told (Some all) (Some after) least (before, was, grown) = (
 )
   where
     one : (less later : List LogEntry) (n : ℕ) → Told told ∷ [] ≡ less ++ Told n ∷ later → greatest_told (before ++ less) ≤ n
-    one [] later n is = subst (λ (k : ℕ). greatest_told (before ++ []) ≤ k) (ap told_by (heads is).0) (subst (λ (l : List LogEntry). greatest_told l ≤ told) (some_same was ∙ sym (append_nil before)) least.0)
-    one (x ∷ less) later n is = absurd (not_empty less later (Told n) (heads is).1)
+    one [] later n is = subst (λ (k : ℕ). greatest_told (before ++ []) ≤ k) (ap told_by (same_heads is).0) (subst (λ (l : List LogEntry). greatest_told l ≤ told) (some_same was ∙ sym (append_nil before)) least.0)
+    one (x ∷ less) later n is = absurd (not_empty less later (Told n) (same_heads is).1)
 
 -- what was told before counts for no less behind other entries
-greatest_behind : (before less : List LogEntry) → greatest_told less ≤ greatest_told (before ++ less)
+pub greatest_behind : (before less : List LogEntry) → greatest_told less ≤ greatest_told (before ++ less)
 greatest_behind [] less = omega arith
 greatest_behind (e ∷ before) less = let b = greatest_behind before less in omega (arith, b)
 
@@ -96,4 +96,4 @@ rising_entries entries old (Some after) (before, was, grown) (start, added, is, 
   where
     same_rest : (front one other : List LogEntry) → front ++ one ≡ front ++ other → one ≡ other
     same_rest [] one other e = e
-    same_rest (x ∷ front) one other e = same_rest front one other (heads e).1
+    same_rest (x ∷ front) one other e = same_rest front one other (same_heads e).1

@@ -6,7 +6,6 @@ use Rattle.mk_plan.specs.declared.Item.{Item}
 use Rattle.mk_outside.specs.declared.fleet.LogEntry.{LogEntry}
 use Rattle.mk_sched.specs.Cores.{CoreState}
 use Rattle.mk_run_local.specs.Laws.{RepliesAreKinds}
-use Rattle.mk_sched.proofs.Pushed.{heads}
 use Rattle.mk_run_crew.specs.Seen.{CrewSeen, crew_of}
 use Rattle.mk_run_crew.specs.Calls.{SendsAs}
 use Rattle.mk_run.specs.declared.outcome.Outcome.{Outcome}
@@ -29,6 +28,7 @@ use Rattle.mk_pace_loop.specs.inner.Waiting.{IsHeldAnew, IsOnTempo, IsTooLate, W
 use Rattle.mk_pace_loop.proofs.Following.{follower_sent, follower_taken, follower_unsent, mem_ends}
 use Rattle.mk_pace_loop.proofs.HeldFirst.{all_again, but_one}
 use Rattle.mk_pace_loop.proofs.StepSent.{late_ends, step_sent}
+use Rattle.mk_base.proofs.Items.{same_heads}
 
 -- what stands of tempo, bound and moments stands of others that are the same
 same_of : (F : Tempo → Option ℕ → List Moment → Type 0) (W V : WaitingSeen) (moments : List Moment) → IsOnTempo W V → V.moments ≡ moments → F W.tempo W.strict moments → F V.tempo V.strict V.moments
@@ -55,7 +55,7 @@ behind_next holds s held b front test is = go front.0 front.1 front.2
 
 -- and that is the one that is taken
 pub next_late : (holds : List (List Held)) (s : ℕ) (held : Held) (q : List Held) → ((h : Held) × (q : List Held) × (slice_get holds s ≡ Some (h ∷ q)) × (h.due ≡ None)) → slice_get holds s ≡ Some (held ∷ q) → held.due ≡ None
-next_late holds s held q next there = ap (λ (h : Held). h.due) (heads (some_same (sym there ∙ next.2))).0 ∙ next.3
+next_late holds s held q next there = ap (λ (h : Held). h.due) (same_heads (some_same (sym there ∙ next.2))).0 ∙ next.3
 
 -- it is one
 pub behind_none : (holds : List (List Held)) (s : ℕ) (held : Held) (b : Bool) → ((q : List Held) × (slice_get holds s ≡ Some q) × (Some held ≡ slice_get q 0)) → is_some held.due ≡ not b → b ≡ false → (q : List Held) × (slice_get holds s ≡ Some q) × BeginsWithStep q

@@ -17,9 +17,7 @@ use Rattle.mk_plan.specs.Report.{is_step}
 use Rattle.mk_outside.specs.declared.fleet.LogEntry.{LogEntry}
 use Rattle.mk_outside.specs.declared.fleet.LogEntry.TheVariants.{Told}
 use Rattle.mk_outside.specs.Logs.{told_by}
-use Rattle.mk_sched.proofs.Pushed.{heads, not_empty}
 use Rattle.mk_run_laws.proofs.Moving.{last_later}
-use Rattle.mk_run_laws.proofs.Stepping.{same_or_not}
 use Rattle.mk_run_local.specs.Laws.{RepliesAreKinds}
 use Rattle.mk_run_crew.specs.Seen.{CrewSeen, crew_of}
 use Rattle.mk_run_crew.specs.Calls.{SendsAs}
@@ -45,7 +43,9 @@ use Rattle.mk_pace_loop.proofs.Following.{ends_here}
 use Rattle.mk_pace_loop.proofs.HeldFirst.{IsFirstOf, IsFront, IsStepDue, but_one, due_step, first_below, first_parts, first_taken, front_is}
 use Rattle.mk_pace_loop.proofs.Noted.{moments_away, moments_here, noted}
 use Rattle.mk_pace_loop.proofs.OneSent.{sent_on}
-use Rattle.mk_pace_loop.proofs.Placed.{behind_same, sent_at, step_time_of, two_places}
+use Rattle.mk_pace_loop.proofs.Placed.{sent_at, step_time_of, two_places}
+use Rattle.mk_base.proofs.Counts.{same_or_not}
+use Rattle.mk_base.proofs.Items.{not_empty, same_heads, same_behind}
 
 -- ---- what the clock told last
 
@@ -104,7 +104,7 @@ module _ (S : Setting) (T : Tempo) (strict : Option ℕ) (P : Plan) (J : List En
           subst (λ (k : ℕ). k < sim_count P) a.whose (step_time_of P J a.before a.later a.sim y n.0 n.1 p.stands a.parts).2
 
       other_waits : (p.holding t.0 other_low).waiting ≡ Step y n.0 n.1 ∷ n.2
-      other_waits = let g = p.holding t.0 other_low in behind_same (p.queued t.0) g.waiting (Step y n.0 n.1 ∷ n.2) (sym g.items ∙ n.3 ∙ ap (λ (l : List Item). l ++ Step y n.0 n.1 ∷ n.2) (out_is t.0 other_low))
+      other_waits = let g = p.holding t.0 other_low in same_behind (p.queued t.0) g.waiting (Step y n.0 n.1 ∷ n.2) (sym g.items ∙ n.3 ∙ ap (λ (l : List Item). l ++ Step y n.0 n.1 ∷ n.2) (out_is t.0 other_low))
 
       -- where it is held
       record IsOther : Type 0 where
@@ -214,8 +214,8 @@ module _ (S : Setting) (T : Tempo) (strict : Option ℕ) (P : Plan) (J : List En
           step_of a b i j m n e = cc
 
           time_same : (l : List Item) → taken.0 ∷ [] ≡ l ++ Step x inputs advance ∷ later → f.due.at.time ≡ x.time
-          time_same [] e = ap (λ (a : Tier). a.time) (step_of f.due.at x taken_step.inputs inputs taken_step.advance advance (sym taken_step.item_is ∙ (heads e).0))
-          time_same (d ∷ l) e = absurd (not_empty l later (Step x inputs advance) (heads e).1)
+          time_same [] e = ap (λ (a : Tier). a.time) (step_of f.due.at x taken_step.inputs inputs taken_step.advance advance (sym taken_step.item_is ∙ (same_heads e).0))
+          time_same (d ∷ l) e = absurd (not_empty l later (Step x inputs advance) (same_heads e).1)
 
       taken_at : IsItemAt J h.place taken.0
       taken_at = (taken.2.is.sim, taken.2.is.there)

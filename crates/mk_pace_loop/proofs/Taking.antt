@@ -18,7 +18,7 @@ use Rattle.mk_sched.specs.Answers.{SomeReady}
 use Rattle.mk_run_laws.specs.Handshake.{is_within}
 use Rattle.mk_run_laws.specs.Crews.{CrewState, IsHeard, kept_of}
 use Rattle.mk_run_laws.specs.inner.Running.{HasChannel}
-use Rattle.mk_run_laws.proofs.Stepping.{after_message, item_leaves_open, same_or_not, open_got, open_sent, sent_away, sent_here, got_sent, sent_got}
+use Rattle.mk_run_laws.proofs.Stepping.{after_message, item_leaves_open, open_got, open_sent, sent_away, sent_here, got_sent, sent_got}
 use Rattle.mk_run_links.specs.Entries.{AreOfLinks, IsRunLink}
 use Rattle.mk_run_links.proofs.OnEntries.{no_rests}
 use Rattle.mk_run_local.specs.Calls.{IsFitSuccess}
@@ -37,6 +37,7 @@ use Rattle.mk_pace_loop.specs.inner.Waiting.{DueAs, waiting_seen}
 use Rattle.mk_pace_loop.proofs.Grown.{begins_push, held_longer, held_push, kept_got, kept_sent, moments_longer, none_pushed, none_shut, none_waits, one_moved}
 use Rattle.mk_pace_loop.proofs.Meeting.{met_fits, met_kept_away, met_kept_here, met_kinds, met_channels, met_looks, met_moments, met_naps, met_no_channel, met_no_other, met_replied, met_timely, met_told, met_within}
 use Rattle.mk_pace_loop.proofs.Passing.{on_later, origin_later, setup_later}
+use Rattle.mk_base.proofs.Counts.{same_or_not}
 
 module _ (S : Setting) (T : Tempo) (strict : Option ℕ) (P : Plan) (J : List Entry) (before entries : List LogEntry) (C D : CrewState) (sims : List (Option Simulator)) (holds : List (List Held)) (moments : List Moment) (p : IsPacing S P J before C sims (waiting_seen T strict holds moments))
     (s : SimNo) (m : Message) (nobody : SomeReady P J → ⊥) (of_links : AreOfLinks (IsRunLink S.started S.scenario) entries) (fit : (k : Arrival) (more : List Arrival) → C.kept ≡ k ∷ more → IsFitSuccess m) (heard : IsHeard entries s.0 m C D)

@@ -16,7 +16,7 @@ use Rattle.mk_outside.specs.declared.fleet.LogEntry.TheVariants.{Heard, NotHeard
 use Rattle.mk_outside.specs.Logs.{Adds, last_read, last_that, later_of, told_by}
 use Rattle.mk_outside.proofs.OnLogs.{adds_more, adds_none, last-append}
 use Rattle.mk_local.specs.Simulators.{Simulator}
-use Rattle.mk_sched.specs.Cores.{CoreState, is_message_in_range}
+use Rattle.mk_sched.specs.Cores.{CoreState}
 use Rattle.mk_run_laws.specs.Crews.{IsHeard}
 use Rattle.mk_run_laws.specs.Handshake.{sim_link}
 use Rattle.mk_run_laws.specs.Channels.{Channel}
@@ -52,6 +52,7 @@ use Rattle.mk_pace_loop.proofs.Meeting.{met_in_range, met_low}
 use Rattle.mk_pace_loop.proofs.Passing.{nap_here, reads, sleeps}
 use Rattle.mk_pace_loop.proofs.Risen.{clockless_rises, nap_rises}
 use Rattle.mk_pace_loop.proofs.Unheard.{unheard_ends, unheard_on}
+use Rattle.mk_plan.specs.Messages.{is_message_in_range}
 
 -- ---- what stays
 
@@ -143,7 +144,7 @@ unheard_attends risen told core entries C D W h waits un of_links sims cause = �
 -- ---- a nap
 
 -- no entry of a link tells a number
-none_told : (entries : List LogEntry) → IsClockless entries → last_that is_told entries ≡ None
+pub none_told : (entries : List LogEntry) → IsClockless entries → last_that is_told entries ≡ None
 none_told [] all = refl
 none_told (e ∷ entries) all = ap (λ (o : Option LogEntry). later_of (if is_told e then Some e else None) o) (none_told entries all.1) ∙ ap (λ (b : Bool). if b then Some e else None) (untold e all.0)
   where

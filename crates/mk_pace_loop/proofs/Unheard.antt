@@ -26,7 +26,7 @@ use Rattle.mk_run_crew.specs.Seen.{CrewSeen, crew_of}
 use Rattle.mk_run.specs.Outcomes.{outcome_of}
 use Rattle.mk_run.specs.inner.Turns.{Waits}
 use Rattle.mk_run.specs.inner.Underway.{Setting}
-use Rattle.mk_run.proofs.Endings.{last_is_in, none_named}
+use Rattle.mk_run.proofs.Endings.{none_named}
 use Rattle.mk_pace_laws.specs.declared.end.PaceEnd.TheVariants as pace
 use Rattle.mk_pace_loop.specs.inner.PacedOut.{EndsOutcome, HasGivenPaced}
 use Rattle.mk_pace_loop.specs.inner.Pacing.{IsPacing}
@@ -34,6 +34,7 @@ use Rattle.mk_pace_loop.specs.inner.Turns.{GoesOn, IsStopping}
 use Rattle.mk_pace_loop.specs.inner.Waiting.{WaitingSeen}
 use Rattle.mk_pace_loop.proofs.Ending.{ends_here}
 use Rattle.mk_pace_loop.proofs.Passing.{looks_around}
+use Rattle.mk_run_crew.proofs.Halting.{last_in}
 
 module _ (S : Setting) (core : CoreState) (log entries : List LogEntry) (C D : CrewSeen) (W : WaitingSeen) (risen : Type 0) (p : GoesOn S core log C W) (waits : Waits core) (sims : D.sims ≡ C.sims) where
   -- nothing came by these entries
@@ -55,7 +56,7 @@ module _ (S : Setting) (core : CoreState) (log entries : List LogEntry) (C D : C
         let w = shown.0 in
         let t = given_now sim.0 w shown.1 (none_first w.held (unfinished_none w.held shown.2.0)) in
         let l_is : w.link ≡ t.0 = ap (λ (v : Channel). v.link) (sym t.2) ∙ t.1.channel.link in
-        (t.0, t.1, in_back (Ended t.0) log entries (subst (λ (l : LinkNo). IsIn (Ended l) entries) l_is (last_is_in (is_read w.link) entries (Ended w.link) shown.2.1)))
+        (t.0, t.1, in_back (Ended t.0) log entries (subst (λ (l : LinkNo). IsIn (Ended l) entries) l_is (last_in (is_read w.link) entries (Ended w.link) shown.2.1)))
     by_link (link_halt.Garbled sim test) cause shown =
         let w = shown.0 in
         let b = shown.2 in

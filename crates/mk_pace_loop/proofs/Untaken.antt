@@ -20,7 +20,7 @@ use Rattle.mk_run_laws.specs.Crews.{IsHeard}
 use Rattle.mk_run_laws.specs.Handshake.{is_within, sim_link}
 use Rattle.mk_run_laws.specs.Kinds.{KeepsToKinds}
 use Rattle.mk_run_laws.specs.inner.Running.{HasChannel}
-use Rattle.mk_run_laws.proofs.Stepping.{sent_got}
+use Rattle.mk_run_laws.proofs.Stepping.{sent_got, got_given, given_here}
 use Rattle.mk_run_links.specs.Entries.{IsRunLink}
 use Rattle.mk_run_links.proofs.OnEntries.{no_rests}
 use Rattle.mk_run_crew.specs.Seen.{CrewSeen, crew_of}
@@ -41,7 +41,7 @@ use Rattle.mk_pace_loop.specs.inner.Turns.{IsPast, IsStopping}
 use Rattle.mk_pace_loop.specs.inner.Waiting.{WaitingSeen, timing_of}
 use Rattle.mk_run.proofs.Endings.{limit_unnamed}
 use Rattle.mk_pace_loop.proofs.Ending.{linked_low, queued_itself, sent_is, within_low}
-use Rattle.mk_pace_loop.proofs.Meeting.{got_given, given_here, met_fits, met_kinds, met_channels, met_looks, met_moments, met_naps, met_naps_before, met_no_other, met_replied, met_timely, met_told, taken_kept}
+use Rattle.mk_pace_loop.proofs.Meeting.{met_fits, met_kinds, met_channels, met_looks, met_moments, met_naps, met_naps_before, met_no_other, met_replied, met_timely, met_told, taken_kept}
 use Rattle.mk_pace_loop.proofs.Passing.{moments_later, on_later, origin_later, setup_later}
 
 module _ (S : Setting) (core : CoreState) (log : List LogEntry) (s : SimNo) (m : Message) (D : CrewSeen) (W : WaitingSeen) (h : IsPast S core log s m D W) where

@@ -5,7 +5,6 @@ ghost use Rattle.mk_outside.specs.declared.fleet.LogEntry.{LogEntry};
 ghost use Rattle.mk_local.specs.Registries.{rows_in};
 ghost use Rattle.mk_plan.specs.declared.Item.{Item};
 ghost use Rattle.mk_plan.specs.Plans.{sim_count};
-ghost use Rattle.mk_sched.specs.Cores.{is_message_in_range};
 ghost use Rattle.mk_run_links.specs.Places.{AreOpen};
 ghost use Rattle.mk_run_local.specs.Seen.{AreOf};
 ghost use Rattle.mk_run_crew.specs.Seen.{CrewSeen, within_of};
@@ -14,6 +13,7 @@ ghost use Rattle.mk_run.specs.inner.Turns.{AreLinksOpen, GrowsBy, IsStill, Waits
 ghost use Rattle.mk_run.specs.inner.Underway.{Setting};
 ghost use Rattle.mk_pace_loop.specs.inner.Turns.{AnswersAs, AsksAs, AttendsAs, GoesOn, HasJustTold, IsPast, NapsAs, PassesAs, RisesOn, TakesAs, TurnsAs};
 ghost use Rattle.mk_pace_loop.specs.inner.Waiting.{AreEarly, HasTime, IsHeldLast, IsInTime, IsOnTempo};
+ghost use Rattle.mk_plan.specs.Messages.{is_message_in_range};
 
 use crate::sending::send_due;
 use crate::waiting::Waiting;

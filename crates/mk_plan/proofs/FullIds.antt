@@ -6,6 +6,7 @@ use Rattle.mk_plan.specs.declared.PlanSim.{PlanSim}
 use Rattle.mk_plan.specs.declared.PlanModel.{PlanModel}
 use Rattle.mk_plan.specs.declared.PlanEntity.{PlanEntity}
 use Rattle.mk_plan.specs.Plans.{owner, eid_of, full_id, sim_id, dot, RefersInside, HasDistinctNames}
+use Rattle.mk_base.proofs.Items.{get_below}
 
 pub full_id_is : (P : Plan) (e s : ℕ) (sim : PlanSim) (entity : PlanEntity) → s ≡ owner P e → slice_get P.sims s ≡ Some sim → slice_get P.entities e ≡ Some entity → sim.id ++ dot ∷ entity.eid ≡ full_id P e
 full_id_is P e s sim entity owned there is = rw (sym owned, there, is) (sym (append_assoc sim.id (dot ∷ []) entity.eid))
@@ -37,11 +38,6 @@ got [] i d x at = cc
 got (y ∷ ys) zero d x at = some_same at
 got (y ∷ ys) (suc i) d x at = got ys i d x at
 
-below : {X : Type 0} (xs : List X) (i : ℕ) (x : X) → slice_get xs i ≡ Some x → i < length xs
-below [] i x at = cc
-below (y ∷ ys) zero x at = omega arith
-below (y ∷ ys) (suc i) x at = omega (arith, below ys i x at)
-
 module _ (P : Plan) (names : HasDistinctNames P) where
   -- an entity is told by its simulator and its name there
   pub same_entity : (d e : ℕ) → d < length P.entities → e < length P.entities → owner P d ≡ owner P e → eid_of P d ≡ eid_of P e → d ≡ e
@@ -57,8 +53,8 @@ module _ (P : Plan) (names : HasDistinctNames P) where
     where
       by : (i ≡ j) ⊎ ((i < j) ⊎ (j < i)) → i ≡ j
       by (inl q) = q
-      by (inr (inl l)) = absurd (names.sims i j s l (below P.sims j t to) (ap (λ (u : PlanSim). u.id) (got P.sims i s s at) ∙ same ∙ sym (ap (λ (u : PlanSim). u.id) (got P.sims j s t to))))
-      by (inr (inr l)) = absurd (names.sims j i s l (below P.sims i s at) (ap (λ (u : PlanSim). u.id) (got P.sims j s t to) ∙ sym same ∙ sym (ap (λ (u : PlanSim). u.id) (got P.sims i s s at))))
+      by (inr (inl l)) = absurd (names.sims i j s l (get_below P.sims j t to) (ap (λ (u : PlanSim). u.id) (got P.sims i s s at) ∙ same ∙ sym (ap (λ (u : PlanSim). u.id) (got P.sims j s t to))))
+      by (inr (inr l)) = absurd (names.sims j i s l (get_below P.sims i s at) (ap (λ (u : PlanSim). u.id) (got P.sims j s t to) ∙ sym same ∙ sym (ap (λ (u : PlanSim). u.id) (got P.sims i s s at))))
 
 module _ (P : Plan) (names : HasDistinctNames P) (refs : RefersInside P) where
   pub owner_there : (e : ℕ) → e < length P.entities → owner P e < length P.sims

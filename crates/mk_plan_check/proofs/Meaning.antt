@@ -17,13 +17,15 @@ use Rattle.mk_base.specs.Names.{is_eid}
 use Rattle.mk_plan.specs.declared.Plan.{Plan}
 use Rattle.mk_plan.specs.declared.PlanSim.{PlanSim}
 use Rattle.mk_plan.specs.declared.Conn.{Conn}
-use Rattle.mk_plan.specs.Plans.{owner, eid_of, kind_of, rank_of, dot, IsWithinLimits, RefersInside, HasDistinctNames, IsWellFormed, HasRanks, HasOneConnectionEach, HasInitialValues, HasKindsOfConnections, IsValidPlan}
+use Rattle.mk_plan.specs.Plans.{owner, eid_of, kind_of, rank_of, dot, IsWithinLimits, RefersInside, HasDistinctNames, IsWellFormed, HasRanks, HasOneConnectionEach, HasInitialValues, HasKindsOfConnections, IsValidPlan, IsOtherWay}
 use Rattle.mk_plan_check.specs.Nesting.{nesting_of}
 use Rattle.mk_plan_check.specs.Tests.{all_apart, implies, numbers_fit, sizes_fit, event_fits, sim_fits, models_of, models_fit, initial_fits, width_fits, is_within_limits, entity_refers, conn_refers, pair_refers, refers_inside, sims_apart, has_no_dot, eids_differ, eids_apart, has_distinct_names, is_well_formed, ranked, conn_rises, pair_rises, has_ranks, same_way, has_one_connection_each, initial_stands, has_initial_values, persistence_fits, triggering_fits, kinds_fit, same_bool, same_source, same_target, sources_agree, targets_agree, has_kinds_of_connections, first_bad}
 use Rattle.mk_plan_check.specs.FirstBad.{IsFirstBad}
 use Rattle.mk_plan_check.specs.inner.FirstBad.{HasDatums}
 use Rattle.mk_plan_check.proofs.Scanning.{nesting_is}
 use Rattle.mk_base.specs.Limits.{latest_end}
+use Rattle.mk_base.proofs.Items.{same_text_self}
+use Rattle.mk_base.proofs.Guessing.{text_is}
 
 module _ {X : Type 0} where
   -- a test of all items, and what it says of each
@@ -47,22 +49,11 @@ module _ {X : Type 0} where
   from_pairs r R f [] h = refl
   from_pairs r R f (x ∷ xs) h = and_from (list_all (r x) xs) (all_apart r xs) (from_all (r x) (R x) (f x) xs (λ j d k. h 0 (suc j) d (omega arith) (omega arith))) (from_pairs r R f xs (λ i j d k l. h (suc i) (suc j) d (omega arith) (omega arith)))
 
--- texts
-pub same_is : (x y : List ℕ) → same_text x y ≡ true → x ≡ y
-same_is [] [] h = refl
-same_is [] (b ∷ y) h = absurd (true≢false (sym h))
-same_is (a ∷ x) [] h = absurd (true≢false (sym h))
-same_is (a ∷ x) (b ∷ y) h = let t = and_parts (nat_eq a b) (same_text x y) h in λ i. eqb-true a b t.0 i ∷ same_is x y t.1 i
-
-pub is_same : (x : List ℕ) → same_text x x ≡ true
-is_same [] = refl
-is_same (a ∷ x) = and_from (nat_eq a a) (same_text x x) (eq-eqb a a refl) (is_same x)
-
 pub differ_is : (x y : List ℕ) → not (same_text x y) ≡ true → x ≢ y
-differ_is x y h e = both_ways (same_text x y) (not-true (same_text x y) h) (subst (λ z. same_text x z ≡ true) e (is_same x))
+differ_is x y h e = both_ways (same_text x y) (not-true (same_text x y) h) (subst (λ z. same_text x z ≡ true) e (same_text_self x))
 
 pub is_differ : (x y : List ℕ) → x ≢ y → not (same_text x y) ≡ true
-is_differ x y h = not_from_false (same_text x y) (false_from_ne_true (same_text x y) (λ e. h (same_is x y e)))
+is_differ x y h = not_from_false (same_text x y) (false_from_ne_true (same_text x y) (λ e. h (text_is x y e)))
 
 -- numbers
 pub limits_from : (P : Plan) → numbers_fit P ≡ true → ((pos 1 ≤ℤ P.until) × (P.until ≤ℤ latest_end)) × ((1 ≤ P.loops) × (P.loops ≤ 1000)) × ((1 ≤ P.entries) × (P.entries ≤ 20000000))
@@ -243,11 +234,11 @@ eids_from : (P : Plan) (d e : ℕ) → eids_differ P d e ≡ true → owner P d 
 eids_from P d e h o q = both_ways (eids_differ P d e) same h
   where
     same : eids_differ P d e ≡ false
-    same = not_from_true ((owner P d == owner P e) && same_text (eid_of P d) (eid_of P e)) (and_from (owner P d == owner P e) (same_text (eid_of P d) (eid_of P e)) (eq-eqb (owner P d) (owner P e) o) (subst (λ z. same_text (eid_of P d) z ≡ true) q (is_same (eid_of P d))))
+    same = not_from_true ((owner P d == owner P e) && same_text (eid_of P d) (eid_of P e)) (and_from (owner P d == owner P e) (same_text (eid_of P d) (eid_of P e)) (eq-eqb (owner P d) (owner P e) o) (subst (λ z. same_text (eid_of P d) z ≡ true) q (same_text_self (eid_of P d))))
 
 from_eids : (P : Plan) (d e : ℕ) → (owner P d ≡ owner P e → eid_of P d ≢ eid_of P e) → eids_differ P d e ≡ true
 from_eids P d e h = not_from_false ((owner P d == owner P e) && same_text (eid_of P d) (eid_of P e)) (false_from_ne_true ((owner P d == owner P e) && same_text (eid_of P d) (eid_of P e))
-    (λ k. let t = and_parts (owner P d == owner P e) (same_text (eid_of P d) (eid_of P e)) k in h (eqb-true (owner P d) (owner P e) t.0) (same_is (eid_of P d) (eid_of P e) t.1)))
+    (λ k. let t = and_parts (owner P d == owner P e) (same_text (eid_of P d) (eid_of P e)) k in h (eqb-true (owner P d) (owner P e) t.0) (text_is (eid_of P d) (eid_of P e) t.1)))
 
 no_dot_from : (b : ℕ) → not (b == dot) ≡ true → b ≢ dot
 no_dot_from b h e = both_ways (b == dot) (not-true (b == dot) h) (eq-eqb b dot e)
@@ -307,22 +298,18 @@ from_ranks P w = from4 (list_all (λ s. nat_lt s.rank (length P.sims)) P.sims) (
     (from_all (conn_rises P) (λ c. c.via ≡ Plain → rank_of P (owner P c.from) < rank_of P (owner P c.to)) (λ c e. rises_via c.via (rank_of P (owner P c.from)) (rank_of P (owner P c.to)) e) P.conns w.conns)
     (from_all (pair_rises P) (λ p. rank_of P p.from.0 < rank_of P p.to.0) (λ p e. lt-ltb (rank_of P p.from.0) (rank_of P p.to.0) e) P.asyncs w.asyncs)
 
--- the third part
-abbrev Alone : Conn → Conn → Type 0
-Alone c d = c.from ≡ d.from → c.to ≡ d.to → c.to_attr ≢ d.to_attr
+alone_from : (c d : Conn) → not (same_way c d) ≡ true → IsOtherWay c d
+alone_from c d h e f g = both_ways (same_way c d) (not-true (same_way c d) h) (from3 (c.from == d.from) (c.to == d.to) (same_text c.to_attr d.to_attr) (eq-eqb c.from d.from e) (eq-eqb c.to d.to f) (subst (λ z. same_text c.to_attr z ≡ true) g (same_text_self c.to_attr)))
 
-alone_from : (c d : Conn) → not (same_way c d) ≡ true → Alone c d
-alone_from c d h e f g = both_ways (same_way c d) (not-true (same_way c d) h) (from3 (c.from == d.from) (c.to == d.to) (same_text c.to_attr d.to_attr) (eq-eqb c.from d.from e) (eq-eqb c.to d.to f) (subst (λ z. same_text c.to_attr z ≡ true) g (is_same c.to_attr)))
-
-from_alone : (c d : Conn) → Alone c d → not (same_way c d) ≡ true
+from_alone : (c d : Conn) → IsOtherWay c d → not (same_way c d) ≡ true
 from_alone c d h = not_from_false (same_way c d) (false_from_ne_true (same_way c d) (λ k.
-    let t = parts3 (c.from == d.from) (c.to == d.to) (same_text c.to_attr d.to_attr) k in h (eqb-true c.from d.from t.0) (eqb-true c.to d.to t.1) (same_is c.to_attr d.to_attr t.2)))
+    let t = parts3 (c.from == d.from) (c.to == d.to) (same_text c.to_attr d.to_attr) k in h (eqb-true c.from d.from t.0) (eqb-true c.to d.to t.1) (text_is c.to_attr d.to_attr t.2)))
 
 pub connections_from : (P : Plan) → has_one_connection_each P ≡ true → HasOneConnectionEach P
-connections_from P h = pairs_from (λ c d. not (same_way c d)) Alone alone_from P.conns h
+connections_from P h = pairs_from (λ c d. not (same_way c d)) IsOtherWay alone_from P.conns h
 
 pub from_connections : (P : Plan) → HasOneConnectionEach P → has_one_connection_each P ≡ true
-from_connections P w = from_pairs (λ c d. not (same_way c d)) Alone from_alone P.conns w
+from_connections P w = from_pairs (λ c d. not (same_way c d)) IsOtherWay from_alone P.conns w
 
 -- the fourth part
 abbrev Stands : Via → Bool → Option (List ℕ) → Type 0
@@ -390,10 +377,10 @@ abbrev Agree : ℕ → ℕ → List ℕ → List ℕ → Bool → Bool → Type 
 Agree m n x y a b = m ≡ n → x ≡ y → a ≡ b
 
 agree_from : (m n : ℕ) (x y : List ℕ) (a b : Bool) → implies ((m == n) && same_text x y) (same_bool a b) ≡ true → Agree m n x y a b
-agree_from m n x y a b h e f = bools_from a b (implies_at ((m == n) && same_text x y) (same_bool a b) h (and_from (m == n) (same_text x y) (eq-eqb m n e) (subst (λ z. same_text x z ≡ true) f (is_same x))))
+agree_from m n x y a b h e f = bools_from a b (implies_at ((m == n) && same_text x y) (same_bool a b) h (and_from (m == n) (same_text x y) (eq-eqb m n e) (subst (λ z. same_text x z ≡ true) f (same_text_self x))))
 
 from_agree : (m n : ℕ) (x y : List ℕ) (a b : Bool) → Agree m n x y a b → implies ((m == n) && same_text x y) (same_bool a b) ≡ true
-from_agree m n x y a b h = at_implies ((m == n) && same_text x y) (same_bool a b) (λ k. let t = and_parts (m == n) (same_text x y) k in from_bools a b (h (eqb-true m n t.0) (same_is x y t.1)))
+from_agree m n x y a b h = at_implies ((m == n) && same_text x y) (same_bool a b) (λ k. let t = and_parts (m == n) (same_text x y) k in from_bools a b (h (eqb-true m n t.0) (text_is x y t.1)))
 
 abbrev Persists : Plan → Conn → Type 0
 Persists P c = (kind_of P (owner P c.from) ≡ TimeBased → c.persistent ≡ true) × (kind_of P (owner P c.from) ≡ EventBased → c.persistent ≡ false)

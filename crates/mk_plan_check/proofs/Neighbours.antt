@@ -19,22 +19,11 @@ use Rattle.mk_plan.specs.declared.Conn.{Conn}
 use Rattle.mk_plan_check.specs.declared.marks.Mark.{Mark}
 use Rattle.mk_plan_check.specs.Tests.{all_apart, implies, same_bool, eids_apart, has_one_connection_each, sources_agree, targets_agree}
 use Rattle.mk_plan_check.specs.inner.Marks.{Label, label_of, way_label, source_label, target_label, name_label, comes_first, differ, agree, differ_by, agree_by, fits_first, all_next}
-use Rattle.mk_plan_check.proofs.Meaning.{same_is, is_same, differ_is, is_differ, bools_from, from_bools, implies_at, at_implies}
-
--- two truths that imply each other
-same_truth : (a b : Bool) → (a ≡ true → b ≡ true) → (b ≡ true → a ≡ true) → a ≡ b
-same_truth true true f g = refl
-same_truth true false f g = sym (f refl)
-same_truth false true f g = g refl
-same_truth false false f g = refl
-
-never : (b : Bool) → (b && false) ≡ false
-never true = refl
-never false = refl
-
-un_not : (b : Bool) → not b ≡ false → b ≡ true
-un_not true h = refl
-un_not false h = sym h
+use Rattle.mk_plan_check.proofs.Meaning.{differ_is, is_differ, bools_from, from_bools, implies_at, at_implies}
+use Rattle.mk_base.proofs.Bools.{and_false, same_truth, not_false}
+use Rattle.mk_base.proofs.Items.{same_text_self}
+use Rattle.mk_base.proofs.Guessing.{text_is}
+use Rattle.mk_base.proofs.AtPlaces.{same_sym}
 
 module _ {X : Type 0} (fits : X → X → Bool) where
   all_not : (x : X) (xs : List X) → list_all (fits x) xs ≡ true → AllByRecursion (λ y. not (fits x y) ≡ false) xs
@@ -43,7 +32,7 @@ module _ {X : Type 0} (fits : X → X → Bool) where
 
   not_all : (x : X) (xs : List X) → AllByRecursion (λ y. not (fits x y) ≡ false) xs → list_all (fits x) xs ≡ true
   not_all x [] h = refl
-  not_all x (y ∷ ys) h = and_from (fits x y) (list_all (fits x) ys) (un_not (fits x y) h.0) (not_all x ys h.1)
+  not_all x (y ∷ ys) h = and_from (fits x y) (list_all (fits x) ys) (not_false (fits x y) h.0) (not_all x ys h.1)
 
   distinct_from : (xs : List X) → all_apart fits xs ≡ true → IsDistinct (λ x y. not (fits x y)) xs
   unfolding IsDistinct
@@ -77,7 +66,7 @@ module _ {X : Type 0} (fits : X → X → Bool) where
   next_false (x ∷ []) k l h = absurd (omega (arith, l))
   next_false (x ∷ y ∷ zs) zero l h = ap (λ b. b && all_next fits (y ∷ zs)) (sym (h x))
   next_false (x ∷ y ∷ zs) (suc k) l h = ap (λ b. fits x y && b) (next_false (y ∷ zs) k (omega (arith, l)) (λ d.
-      let e : suc k + 1 ≡ suc (k + 1) = omega arith in subst (λ n. false ≡ fits (get_or (y ∷ zs) k d) (get_or (x ∷ y ∷ zs) n d)) e (h d))) ∙ never (fits x y)
+      let e : suc k + 1 ≡ suc (k + 1) = omega arith in subst (λ n. false ≡ fits (get_or (y ∷ zs) k d) (get_or (x ∷ y ∷ zs) n d)) e (h d))) ∙ and_false (fits x y)
 
   -- what a test of neighbours answers
   pub adjacent_is : (xs : List X) (r : Bool) → IsAllAdjacentAnswer (λ x y b. b ≡ fits x y) xs r → r ≡ all_next fits xs
@@ -144,14 +133,11 @@ differ_chain a b c u v f g = is_differ (key a) (key c) (λ e. differ_is (key a) 
 
 agree_chain : (a b c : Mark) → Up a b → Up b c → agree_by a b ≡ true → agree_by b c ≡ true → agree_by a c ≡ true
 agree_chain a b c u v f g = at_implies (same_text (key a) (key c)) (same_bool a.flag c.flag) (λ k.
-    let whole = same_is (key a) (key c) k in
+    let whole = text_is (key a) (key c) k in
     let near = between (key a) (key b) (key c) u v whole in
-    let one = implies_at (same_text (key a) (key b)) (same_bool a.flag b.flag) f (subst (λ z. same_text (key a) z ≡ true) near (is_same (key a))) in
-    let two = implies_at (same_text (key b) (key c)) (same_bool b.flag c.flag) g (subst (λ z. same_text z (key c) ≡ true) near (subst (λ z. same_text (key a) z ≡ true) whole (is_same (key a)))) in
+    let one = implies_at (same_text (key a) (key b)) (same_bool a.flag b.flag) f (subst (λ z. same_text (key a) z ≡ true) near (same_text_self (key a))) in
+    let two = implies_at (same_text (key b) (key c)) (same_bool b.flag c.flag) g (subst (λ z. same_text z (key c) ≡ true) near (subst (λ z. same_text (key a) z ≡ true) whole (same_text_self (key a)))) in
     from_bools a.flag c.flag (bools_from a.flag b.flag one ∙ bools_from b.flag c.flag two))
-
-text_flips : (x y : List ℕ) → same_text x y ≡ same_text y x
-text_flips x y = same_truth (same_text x y) (same_text y x) (λ h. subst (λ z. same_text z x ≡ true) (same_is x y h) (is_same x)) (λ h. subst (λ z. same_text z y ≡ true) (same_is y x h) (is_same y))
 
 bool_flips : (a b : Bool) → same_bool a b ≡ same_bool b a
 bool_flips true true = refl
@@ -173,10 +159,10 @@ module _ (fits : Label → Label → Bool) (flips : (a b : Label) → fits a b �
       ∙ sym (apart_map fits label_of xs)
 
 pub scanned_differ : (xs ys : List Mark) → IsPermutation xs ys → IsSortedBy comes_first ys → all_next differ_by ys ≡ all_apart differ (map label_of xs)
-scanned_differ = scanned differ (λ a b. ap not (text_flips a.key b.key)) differ_chain
+scanned_differ = scanned differ (λ a b. ap not (same_sym a.key b.key)) differ_chain
 
 pub scanned_agree : (xs ys : List Mark) → IsPermutation xs ys → IsSortedBy comes_first ys → all_next agree_by ys ≡ all_apart agree (map label_of xs)
-scanned_agree = scanned agree (λ a b i. implies (text_flips a.key b.key i) (bool_flips a.flag b.flag i)) agree_chain
+scanned_agree = scanned agree (λ a b i. implies (same_sym a.key b.key i) (bool_flips a.flag b.flag i)) agree_chain
 
 -- the labels of one more name
 pub marked_more : (P : Plan) (ms new : List Mark) (m : Mark) (e : ℕ) → map label_of ms ≡ map (name_label P) (range_with_len 0 e) → label_of m ≡ name_label P e → new ≡ ms ++ m ∷ [] → map label_of new ≡ map (name_label P) (range_with_len 0 (e + 1))

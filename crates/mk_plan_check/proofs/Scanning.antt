@@ -5,7 +5,7 @@ use Rattle.std.specs.List.{join_with_byte}
 use Rattle.std.specs.Fmt.{decimal, signed_decimal, digits, digits_onto, digit_glyph}
 use Rattle.mk_base.specs.declared.json.Json.{Json, Json-F, roll-Json, map-Json, ind-Json, fold-roll-Json}
 use Rattle.mk_base.specs.Trees.{nesting}
-use Rattle.mk_base.specs.Texts.{text_of, quoted, list_text, object_text}
+use Rattle.mk_base.specs.Texts.{text_of, quoted, list_text, object_text, escaped, hex_digit}
 use Rattle.mk_base.proofs.FoldsAgree.{folded_is}
 use Rattle.mk_plan_check.specs.declared.nesting.Place.{Place}
 use Rattle.mk_plan_check.specs.declared.nesting.Place.TheVariants.{Outside, Quoted}
@@ -56,13 +56,6 @@ nesting_step (Json-F.Text s) = 0
 nesting_step (Json-F.List ns) = suc (deepest ns)
 nesting_step (Json-F.Object ms) = suc (deepest (map (λ (m : List ℕ × ℕ). m.1) ms))
 
-abbrev hex_digit : ℕ → ℕ
-hex_digit n = if nat_lt n 10 then 48 + n else (87 + n)
-
-abbrev escaped : ℕ → List ℕ
-escaped b = if b == 34 then 92 ∷ 34 ∷ [] else if b == 92 then 92 ∷ 92 ∷ [] else if b == 8 then codes "\\b" else if b == 9 then codes "\\t" else if b == 10 then codes "\\n"
-    else if b == 12 then codes "\\f" else if b == 13 then codes "\\r" else if nat_lt b 32 then codes "\\u00" ++ hex_digit (b / 16) ∷ hex_digit (b % 16) ∷ [] else (b ∷ [])
-
 abbrev text_step : Json-F (List ℕ) → List ℕ
 text_step Json-F.Null = codes "null"
 text_step (Json-F.Bool b) = if b then codes "true" else codes "false"
@@ -77,9 +70,6 @@ nesting_roll x = sym (folded_is ℕ nesting_step (roll-Json x)) ∙ fold-roll-Js
 
 text_roll : (x : Json-F Json) → text_of (roll-Json x) ≡ text_step (map-Json Json (List ℕ) text_of x)
 text_roll x = sym (folded_is (List ℕ) text_step (roll-Json x)) ∙ fold-roll-Json (List ℕ) text_step x ∙ (λ i. text_step (map-Json Json (List ℕ) (λ t. folded_is (List ℕ) text_step t i) x))
-
-quoted_is : (s : List ℕ) → quoted s ≡ 34 ∷ flat_map escaped s ++ 34 ∷ []
-quoted_is s = refl
 
 -- a bracket and the one that closes it
 climbs_bracketed : (n b c : ℕ) (x : List ℕ) → (b == 34) ≡ false → is_opening b ≡ true → (c == 34) ≡ false → is_opening c ≡ false → is_closing c ≡ true → Climbs n x → Climbs (suc n) (b ∷ x ++ c ∷ [])

@@ -18,6 +18,7 @@ use Rattle.mk_plan.specs.declared.Message.TheVariants.{Success}
 use Rattle.mk_plan.specs.declared.Place.TheVariants.{Stepping, Fetching}
 use Rattle.mk_plan.specs.Plans.{kind_of, is_time_based}
 use Rattle.mk_plan.specs.Turns.{first_cause, wrong, wrong_next, wrong_data, wanted, is_number, is_output_time, holds_of, time_in, part_for, value_for}
+use Rattle.mk_base.proofs.Bools.{neither_holds, not_false}
 
 -- where there is no cause, each test fails
 three_fail : (a b c : Bool) (k l m : ℕ) → first_cause ((a, k) ∷ (b, l) ∷ (c, m) ∷ []) ≡ None → (a ≡ false) × (b ≡ false) × (c ≡ false)
@@ -34,17 +35,9 @@ five_fail false false false true f k l m n o e = absurd (none_some (sym e))
 five_fail false false false false true k l m n o e = absurd (none_some (sym e))
 five_fail false false false false false k l m n o e = (refl, refl, refl)
 
-not_false : (b : Bool) → not b ≡ false → b ≡ true
-not_false true e = refl
-not_false false e = absurd (true≢false e)
-
 either_true : (a b : Bool) → (a || b) ≡ true → (a ≡ true) ⊎ (b ≡ true)
 either_true true b e = inl refl
 either_true false b e = inr e
-
-neither : (a b : Bool) → (a || b) ≡ false → (a ≡ false) × (b ≡ false)
-neither true b e = absurd (true≢false e)
-neither false b e = (refl, e)
 
 whole_not_null : (t : Json) (n : ℤ) → whole_in t ≡ Some n → is_null t ≡ false
 whole_not_null t n e = grind arith
@@ -89,7 +82,7 @@ data_tests wants x content right = five_fail (not (is_object content) || holds_o
 
 -- where the reply to a GetData is right, it gives no output time or one that fits in 64 bits
 pub right_output_time_fits : (wants : List Want) (x : Tier) (content : Json) → wrong_data wants x content ≡ None → ForSome (option_and_then whole_in (time_in content)) (λ n. FitsSigned w64 n)
-right_output_time_fits wants x content right n is = by_time (time_in content) (neither (not (is_object content)) (holds_of (λ t. not (is_number is_output_time t)) (time_in content)) (data_tests wants x content right).0).1 is
+right_output_time_fits wants x content right n is = by_time (time_in content) (neither_holds (not (is_object content)) (holds_of (λ t. not (is_number is_output_time t)) (time_in content)) (data_tests wants x content right).0).1 is
   where
     by_time : (t : Option Json) → holds_of (λ t. not (is_number is_output_time t)) t ≡ false → option_and_then whole_in t ≡ Some n → FitsSigned w64 n
     by_time None h e = absurd (none_some e)

@@ -7,7 +7,7 @@ ghost use Rattle.mk_plan.specs.declared.Want.{Want};
 ghost use Rattle.mk_plan.specs.Plans.{RefersInside};
 ghost use Rattle.mk_plan.specs.Turns.{wanted, want_order};
 ghost use Rattle.mk_plan_judge.specs.declared.all_wants.Taking.{Taking};
-ghost use Rattle.mk_plan_judge.specs.inner.Takings.{AreTakings, AreWantsOf, IsTakenBy, NoneIsBehind, taking_order, want_of, with_want};
+ghost use Rattle.mk_plan_judge.specs.inner.Takings.{AreTakings, AreWantsOf, IsTakenBy, NoneIsBehind, taking_order, want_taken, with_want};
 
 use mk_base::{List, Mem, Text};
 use mk_plan::{Conn, Plan, Want};
@@ -110,7 +110,7 @@ fn empty_lists(alloc: Global, count: usize) -> Result<Vec<List<Want>>, Mem>
 fn add_want(lists: &mut Vec<List<Want>>, taking: &Taking) -> Result<(), Mem>
     requires there { taking.now.sim < length lists.old.items }
     requires last { (wants : List Want) → slice_get lists.old.items taking.now.sim ≡ Some wants
-        → IsStrictlySortedBy want_order wants × NoneIsBehind (want_of taking.now) wants }
+        → IsStrictlySortedBy want_order wants × NoneIsBehind (want_taken taking.now) wants }
     ensures { OnOk result (lists.new.items ≡ with_want taking.now lists.old.items) }
 {
     put_last(&mut lists[taking.sim as usize], taking)
@@ -119,8 +119,8 @@ fn add_want(lists: &mut Vec<List<Want>>, taking: &Taking) -> Result<(), Mem>
 // Puts what is taken behind all other wants, where none of them comes after it; an equal one takes no second place.
 fn put_last(wants: &mut List<Want>, taking: &Taking) -> Result<(), Mem>
     requires sorted { IsStrictlySortedBy want_order wants.old }
-    requires last { NoneIsBehind (want_of taking.now) wants.old }
-    ensures { OnOk result (wants.new ≡ put want_order (want_of taking.now) wants.old) }
+    requires last { NoneIsBehind (want_taken taking.now) wants.old }
+    ensures { OnOk result (wants.new ≡ put want_order (want_taken taking.now) wants.old) }
 {
     if is_new(wants.as_slice(), taking) {
         let want = want_of(taking)?;
@@ -131,7 +131,7 @@ fn put_last(wants: &mut List<Want>, taking: &Taking) -> Result<(), Mem>
 
 // Whether the last want, if there is one, is another one.
 fn is_new(wants: &[Want], taking: &Taking) -> bool
-    ensures { result ≡ unwrap_or (option_map (λ w. not (is_eq (want_order w (want_of taking.now))))
+    ensures { result ≡ unwrap_or (option_map (λ w. not (is_eq (want_order w (want_taken taking.now))))
         (slice_get wants.now (length wants.now - 1))) true }
 {
     match wants.last() {
@@ -141,14 +141,14 @@ fn is_new(wants: &[Want], taking: &Taking) -> bool
 }
 
 fn is_same(want: &Want, taking: &Taking) -> bool
-    ensures { result ≡ is_eq (want_order want.now (want_of taking.now)) }
+    ensures { result ≡ is_eq (want_order want.now (want_taken taking.now)) }
 {
     want.eid.bytes() == taking.eid.bytes() && want.attr.bytes() == taking.attr.bytes()
 }
 
 // What is taken, as a want of its own.
 fn want_of(taking: &Taking) -> Result<Want, Mem>
-    ensures { IfOk result (λ want. want ≡ want_of taking.now) }
+    ensures { IfOk result (λ want. want ≡ want_taken taking.now) }
 {
     Ok(Want {
         eid: taking.eid.copy()?,

@@ -12,6 +12,7 @@ use Rattle.mk_base.proofs.AtPlaces.{place_first, place_later, same_sym}
 use Rattle.mk_plan.specs.declared.Plan.{Plan}
 use Rattle.mk_plan.specs.Plans.{full_id, RefersInside, HasDistinctNames}
 use Rattle.mk_plan.proofs.FullIds.{same_full}
+use Rattle.mk_base.proofs.Items.{range_more}
 
 -- ---- ids of entities in order
 
@@ -51,11 +52,6 @@ module _ {Y : Type 0} (f : ℕ → List ℕ) (t : List ℕ) where
   key_at (x ∷ ks) a zero i k e low at = cc
   key_at (x ∷ ks) a (suc n) zero k e low at = ap string_bytes at ∙ (heads e).0 ∙ ap f (omega arith)
   key_at (x ∷ ks) a (suc n) (suc i) k e low at = key_at ks (a + 1) n i k (heads e).1 (omega arith) at ∙ ap f (omega arith)
-
--- one more number
-pub range_more : (a n : ℕ) → range_with_len a (suc n) ≡ range_with_len a n ++ (a + n) ∷ []
-range_more a zero = ap (λ m. m ∷ []) (omega arith)
-range_more a (suc n) = ap (λ l. a ∷ l) (range_more (a + 1) n ∙ ap (λ m. range_with_len (a + 1) n ++ m ∷ []) (omega arith))
 
 from_zero : (r : Option ℕ) → option_map (λ i. 0 + i) r ≡ r
 from_zero None = refl

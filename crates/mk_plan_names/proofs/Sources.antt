@@ -17,23 +17,12 @@ use Rattle.mk_plan.specs.declared.AsyncPair.{AsyncPair}
 use Rattle.mk_plan.specs.declared.Conn.{Conn}
 use Rattle.mk_plan_names.specs.inner.Making.{AreAttrsOf, ArePairsOf, HasSource}
 use Rattle.mk_plan_names.specs.Names.{has_at, is_paired}
-
-either : (b x : Bool) → cond b true x ≡ x || b
-either true true = refl
-either true false = refl
-either false true = refl
-either false false = refl
-
-or_false : (x : Bool) → x ≡ x || false
-or_false true = refl
-or_false false = refl
+use Rattle.mk_base.proofs.Counts.{test_equal}
+use Rattle.mk_base.proofs.Bools.{cond_is_or, is_or_false}
 
 has_it : (x b : Bool) → x ≡ true → x ≡ x || b
 has_it true b h = refl
 has_it false b h = absurd (true≢false (sym h))
-
-eq_of : (x y : ℕ) → nat_eq x y ≡ true → x ≡ y
-eq_of x y h = grind (arith, h)
 
 module _ {S Y : Type 0} where
   at_place : (sets : List (IndexSet (String Y) S)) (e : ℕ) (attr : List ℕ) (s : IndexSet (String Y) S) → slice_get sets e ≡ Some s → has_at sets e attr ≡ contains_text s attr
@@ -47,22 +36,22 @@ module _ {S Y : Type 0} where
       there = slice_get-get_or sets c.from d low ∙ ap Some (sym is)
 
       by : (e : ℕ) (attr : List ℕ) (b : Bool) → nat_eq c.from e ≡ b → has_at (slice_set sets c.from new) e attr ≡ has_at sets e attr || (nat_eq c.from e && same_text c.from_attr attr)
-      by e attr true h = let same : c.from ≡ e = eq_of c.from e h in
+      by e attr true h = let same : c.from ≡ e = test_equal c.from e h in
           rw h (ap (λ i. has_at (slice_set sets c.from new) i attr) (sym same) ∙ at_place (slice_set sets c.from new) c.from attr new (set_here sets c.from new old there) ∙ grows attr
           ∙ ap (λ b. b || same_text c.from_attr attr) (sym (at_place sets c.from attr old there) ∙ ap (λ i. has_at sets i attr) same))
-      by e attr false h = rw h (ap (λ (o : Option (IndexSet (String Y) S)). unwrap_or (option_map (λ s. contains_text s attr) o) false) (set_else sets c.from e new (λ q. true≢false (sym (self e) ∙ ap (λ i. nat_eq i e) q ∙ h))) ∙ or_false (has_at sets e attr))
+      by e attr false h = rw h (ap (λ (o : Option (IndexSet (String Y) S)). unwrap_or (option_map (λ s. contains_text s attr) o) false) (set_else sets c.from e new (λ q. true≢false (sym (self e) ∙ ap (λ i. nat_eq i e) q ∙ h))) ∙ is_or_false (has_at sets e attr))
         where
           self : (e : ℕ) → nat_eq e e ≡ true
           self e = grind arith
 
   pub set_grown : (old new : IndexSet (String Y) S) (key : String Y) (attr : List ℕ) → string_bytes key ≡ attr → UpdatesBy string_eq (string_eq key) old new true → (text : List ℕ) → contains_text new text ≡ contains_text old text || same_text attr text
-  set_grown old new key attr is up text = hash_set_updates_text (string_bytes key) old new true up text ∙ either (bytes_eq (string_bytes key) text) (contains_text old text) ∙ ap (λ k. contains_text old text || bytes_eq k text) is
+  set_grown old new key attr is up text = hash_set_updates_text (string_bytes key) old new true up text ∙ cond_is_or (bytes_eq (string_bytes key) text) (contains_text old text) ∙ ap (λ k. contains_text old text || bytes_eq k text) is
 
   pub set_kept : (old : IndexSet (String Y) S) (attr : List ℕ) → contains_text old attr ≡ true → (text : List ℕ) → contains_text old text ≡ contains_text old text || same_text attr text
   set_kept old attr there text = by (same_text attr text) refl
     where
       by : (b : Bool) → same_text attr text ≡ b → contains_text old text ≡ contains_text old text || same_text attr text
-      by false h = rw h (or_false (contains_text old text))
+      by false h = rw h (is_or_false (contains_text old text))
       by true h = has_it (contains_text old text) (same_text attr text) (ap (contains_text old) (sym ((bytes_eq-Decides attr text).0 h)) ∙ there)
 
   -- one more empty set
@@ -79,7 +68,7 @@ module _ {S Y : Type 0} where
   pub attrs_more : (cs : List Conn) (c : Conn) (i m : ℕ) (old new : List (IndexSet (String Y) S)) → m ≡ i + 1 → i < length cs → c ≡ get_or cs i c → AreAttrsOf (take i cs) old → HasSource old c new → AreAttrsOf (take m cs) new
   attrs_more cs c i m old new next low at all step e attr =
       step.each e attr ∙ ap (λ b. b || ((c.from == e) && same_text c.from_attr attr)) (all e attr)
-      ∙ ap (λ b. list_any test (take i cs) || b) (or_false (test c)) ∙ sym (list_any-append test (take i cs) (c ∷ [])) ∙ ap (list_any test) (one_more ∙ ap (λ n. take n cs) (sym next))
+      ∙ ap (λ b. list_any test (take i cs) || b) (is_or_false (test c)) ∙ sym (list_any-append test (take i cs) (c ∷ [])) ∙ ap (list_any test) (one_more ∙ ap (λ n. take n cs) (sym next))
     where
       test : Conn → Bool
       test d = (d.from == e) && same_text d.from_attr attr
@@ -108,14 +97,14 @@ module _ (eq : ℕ × ℕ → ℕ × ℕ → Bool) (law : (a b : ℕ × ℕ) →
     where
       by : (b c : Bool) → list_any (eq k) ks ≡ b → test from to k ≡ c → list_any (test from to) (if b then ks else ks ++ k ∷ []) ≡ list_any (test from to) ks || test from to k
       by true true there here = known ks from to there here ∙ sym (ap (λ b. b || test from to k) (known ks from to there here))
-      by true false there here = rw here (or_false (list_any (test from to) ks))
-      by false c there here = list_any-append (test from to) ks (k ∷ []) ∙ ap (λ b. list_any (test from to) ks || b) (sym (or_false (test from to k)))
+      by true false there here = rw here (is_or_false (list_any (test from to) ks))
+      by false c there here = list_any-append (test from to) ks (k ∷ []) ∙ ap (λ b. list_any (test from to) ks || b) (sym (is_or_false (test from to k)))
 
   -- one more pair
   pub pairs_more : (asyncs : List AsyncPair) (p d : AsyncPair) (i : ℕ) (old new : List (ℕ × ℕ)) → i < length asyncs → ArePairsOf (take i asyncs) old → new ≡ insert_key eq old k → k ≡ (p.from.0, p.to.0) → p ≡ get_or asyncs i d → ArePairsOf (take (i + 1) asyncs) new
   pairs_more asyncs p d i old new low all made is at from to =
       ap (λ l. is_paired l from to) made ∙ pair_added old from to ∙ ap (λ b. b || test from to k) (all from to) ∙ ap (λ (q : ℕ × ℕ). list_any async (take i asyncs) || test from to q) is
-      ∙ ap (λ b. list_any async (take i asyncs) || b) (or_false (async p)) ∙ sym (list_any-append async (take i asyncs) (p ∷ [])) ∙ ap (list_any async) (ap (λ q. take i asyncs ++ q ∷ []) at ∙ sym (take_more asyncs i d low))
+      ∙ ap (λ b. list_any async (take i asyncs) || b) (is_or_false (async p)) ∙ sym (list_any-append async (take i asyncs) (p ∷ [])) ∙ ap (list_any async) (ap (λ q. take i asyncs ++ q ∷ []) at ∙ sym (take_more asyncs i d low))
     where
       async : AsyncPair → Bool
       async q = (q.from.0 == from) && (q.to.0 == to)

@@ -2,12 +2,7 @@
 use Rattle.std.proofs.Common.{◌≡◌, ℕ, zero, suc, ◌+◌, ◌<◌, ◌≤◌, List, [], ◌∷◌, length, take, get_or, slice_get, Some, sym, ap, ◌∙◌, arith}
 use Rattle.std.proofs.lemmas.List.{take_all}
 use Rattle.mk_base.proofs.Lists.{none_some}
-
--- the item at a place
-pub item_is : {X : Type 0} (xs : List X) (i : ℕ) (x : X) → i < length xs → x ≡ get_or xs i x → slice_get xs i ≡ Some x
-item_is [] i x below is = absurd (omega (arith, below))
-item_is (a ∷ xs) zero x below is = ap Some (sym is)
-item_is (a ∷ xs) (suc i) x below is = item_is xs i x (omega (arith, below)) is
+use Rattle.mk_base.proofs.Items.{get_at_place}
 
 same_more : {X : Type 0} (xs ys : List X) (i : ℕ) (x : X) → slice_get xs i ≡ Some x → slice_get ys i ≡ Some x → take i xs ≡ take i ys → take (suc i) xs ≡ take (suc i) ys
 same_more [] ys i x a b same = absurd (none_some a)
@@ -21,12 +16,12 @@ same_more (v ∷ xs) (w ∷ ys) (suc i) x a b same =
 pub next_same : {X : Type 0} (xs ys : List X) (i : ℕ) (x y : X) → i < length xs → x ≡ get_or xs i x → slice_get ys i ≡ Some y → x ≡ y → take i xs ≡ take i ys → take (i + 1) xs ≡ take (i + 1) ys
 next_same xs ys i x y below is there same before =
     let one : i + 1 ≡ suc i = omega arith in
-    ap (λ n. take n xs) one ∙ same_more xs ys i x (item_is xs i x below is) (there ∙ ap Some (sym same)) before ∙ ap (λ n. take n ys) (sym one)
+    ap (λ n. take n xs) one ∙ same_more xs ys i x (get_at_place xs i x below is) (there ∙ ap Some (sym same)) before ∙ ap (λ n. take n ys) (sym one)
 
 -- another item at a place
 pub other_at : {X : Type 0} (xs ys : List X) (i : ℕ) (x y : X) → i < length xs → x ≡ get_or xs i x → slice_get ys i ≡ Some y → (x ≡ y → ⊥) → xs ≡ ys → ⊥
 other_at xs ys i x y below is there other same =
-    let both : Some x ≡ Some y = sym (item_is xs i x below is) ∙ ap (λ l. slice_get l i) same ∙ there in
+    let both : Some x ≡ Some y = sym (get_at_place xs i x below is) ∙ ap (λ l. slice_get l i) same ∙ there in
     other cc
 
 -- all places are the same

@@ -7,7 +7,8 @@ use Rattle.mk_base.specs.Lists.{IsIn}
 use Rattle.mk_base.specs.Links.{same_link, without}
 use Rattle.mk_poll.specs.Turning.{Turning}
 use Rattle.mk_poll.specs.Links.{times_in, IsAdded, IsApart, added, made_parked, made_ready}
-use Rattle.mk_poll.proofs.OnLinks.{eq-self, found}
+use Rattle.mk_poll.proofs.OnLinks.{found}
+use Rattle.mk_base.proofs.Counts.{same_self}
 
 -- 1 where it holds
 abbrev pub once : Bool → ℕ
@@ -48,7 +49,7 @@ times-gone l (x ∷ xs) = elim (same_link x l) as (λ b. same_link x l ≡ b →
 pub times-in : (l : LinkNo) (xs : List LinkNo) → IsIn l xs → 1 ≤ times_in l xs
 times-in l [] none = absurd none
 times-in l (x ∷ xs) (inl here) =
-    let same : once (same_link x l) ≡ 1 = ap (λ (k : LinkNo). once (same_link x k)) here ∙ ap once (eq-self x.0) in
+    let same : once (same_link x l) ≡ 1 = ap (λ (k : LinkNo). once (same_link x k)) here ∙ ap once (same_self x.0) in
     omega (arith, times-cons l x xs, same)
 times-in l (x ∷ xs) (inr there) = omega (arith, times-cons l x xs, times-in l xs there)
 
@@ -74,7 +75,7 @@ apart_added k t new apart l = elim (same_link k l) as (λ b. same_link k l ≡ b
 ] refl
   where
     here : times_in k (t.ready ++ k ∷ []) + (times_in k t.taken + times_in k t.parked) ≤ 1
-    here = omega (arith, times-push k k t.ready, ap once (eq-self k.0), times-none k t.ready (λ h. new (inl h)), times-none k t.taken (λ h. new (inr (inl h))), times-none k t.parked (λ h. new (inr (inr h))))
+    here = omega (arith, times-push k k t.ready, ap once (same_self k.0), times-none k t.ready (λ h. new (inl h)), times-none k t.taken (λ h. new (inr (inl h))), times-none k t.parked (λ h. new (inr (inr h))))
 
 -- a link that wasn't ready becomes so
 pub apart_ready : (k : LinkNo) (t : Turning) → list_any (λ other. same_link other k) t.ready ≡ false → IsApart t
@@ -85,7 +86,7 @@ apart_ready k t none apart l = elim (same_link k l) as (λ b. same_link k l ≡ 
 ] refl
   where
     here : times_in k (t.ready ++ k ∷ []) + (times_in k (without k t.taken) + times_in k (without k t.parked)) ≤ 1
-    here = omega (arith, times-push k k t.ready, ap once (eq-self k.0), times-none k t.ready (unlisted k t.ready none), times-gone k t.taken, times-gone k t.parked)
+    here = omega (arith, times-push k k t.ready, ap once (same_self k.0), times-none k t.ready (unlisted k t.ready none), times-gone k t.taken, times-gone k t.parked)
 
 -- the same, where a ready link stays
 pub apart_made_ready : (k : LinkNo) (t : Turning) → IsApart t → IsApart (made_ready k t)
@@ -107,7 +108,7 @@ apart_parked k t there apart l = elim (same_link k l) as (λ b. same_link k l �
 ] refl
   where
     here : times_in k t.ready + (times_in k (without k t.taken) + times_in k (t.parked ++ k ∷ [])) ≤ 1
-    here = omega (arith, times-push k k t.parked, ap once (eq-self k.0), times-in k t.taken there, times-gone k t.taken, apart k)
+    here = omega (arith, times-push k k t.parked, ap once (same_self k.0), times-in k t.taken there, times-gone k t.taken, apart k)
 
 never_twice : (b : Bool) → once b ≡ 0 → b ≡ false
 never_twice true e = absurd (omega arith)
@@ -115,9 +116,9 @@ never_twice false e = refl
 
 -- the last link, taken off, where it stands nowhere else
 pub last_left : (l : LinkNo) (ys : List LinkNo) → times_in l (ys ++ l ∷ []) ≤ 1 → ys ≡ without l (ys ++ l ∷ [])
-last_left l [] most = sym (ap (λ (b : Bool). cond (not b) (l ∷ []) []) (eq-self l.0))
+last_left l [] most = sym (ap (λ (b : Bool). cond (not b) (l ∷ []) []) (same_self l.0))
 last_left l (y ∷ ys) most =
-    let first : once (same_link y l) ≡ 0 = omega (arith, most, times-cons l y (ys ++ l ∷ []), times-push l l ys, ap once (eq-self l.0)) in
+    let first : once (same_link y l) ≡ 0 = omega (arith, most, times-cons l y (ys ++ l ∷ []), times-push l l ys, ap once (same_self l.0)) in
     let more : times_in l (ys ++ l ∷ []) ≤ 1 = omega (arith, most, times-cons l y (ys ++ l ∷ [])) in
     ap (λ zs. y ∷ zs) (last_left l ys more) ∙ sym (ap (λ (b : Bool). cond (not b) (y ∷ without l (ys ++ l ∷ [])) (without l (ys ++ l ∷ []))) (never_twice _ first))
 

@@ -6,10 +6,8 @@ use Rattle.mk_base.specs.Lists.{IsIn}
 use Rattle.mk_base.specs.Links.{same_link, without}
 use Rattle.mk_poll.specs.Turning.{Turning}
 use Rattle.mk_poll.specs.Links.{IsAdded, made_ready}
-
--- a number is itself
-pub eq-self : (n : ℕ) → (n == n) ≡ true
-eq-self n = search rules
+use Rattle.mk_base.proofs.Counts.{same_self}
+use Rattle.mk_base.proofs.Bools.{or_second}
 
 kept_length : (b : Bool) (x : LinkNo) (xs : List LinkNo) → length (cond (not b) (x ∷ xs) xs) ≤ 1 + length xs
 kept_length true x xs = omega arith
@@ -27,21 +25,17 @@ left_out b x xs is = ap (λ (v : Bool). length (cond (not v) (x ∷ xs) xs)) is
 pub without_lt : (link : LinkNo) (xs : List LinkNo) → IsIn link xs → length (without link xs) < length xs
 without_lt link [] none = absurd none
 without_lt link (x ∷ xs) (inl here) =
-    let same : same_link x link ≡ true = ap (λ (l : LinkNo). same_link x l) here ∙ eq-self x.0 in
+    let same : same_link x link ≡ true = ap (λ (l : LinkNo). same_link x l) here ∙ same_self x.0 in
     omega (arith, left_out (same_link x link) x (without link xs) same, without_le link xs)
 without_lt link (x ∷ xs) (inr there) = omega (arith, kept_length (same_link x link) x (without link xs), without_lt link xs there)
-
-or_true : (a b : Bool) → b ≡ true → (a || b) ≡ true
-or_true true b is = refl
-or_true false b is = is
 
 -- a link that is there is found
 pub found : (link : LinkNo) (xs : List LinkNo) → IsIn link xs → list_any (λ other. same_link other link) xs ≡ true
 found link [] none = absurd none
 found link (x ∷ xs) (inl here) =
-    let same : same_link x link ≡ true = ap (λ (l : LinkNo). same_link x l) here ∙ eq-self x.0 in
+    let same : same_link x link ≡ true = ap (λ (l : LinkNo). same_link x l) here ∙ same_self x.0 in
     ap (λ (b : Bool). b || list_any (λ other. same_link other link) xs) same
-found link (x ∷ xs) (inr there) = or_true (same_link x link) (list_any (λ other. same_link other link) xs) (found link xs there)
+found link (x ∷ xs) (inr there) = or_second (same_link x link) (list_any (λ other. same_link other link) xs) (found link xs there)
 
 -- an added link that isn't ready leaves its place to the ready ones
 pub room_for : (link : LinkNo) (t : Turning) (count : ℕ) → IsAdded link t → list_any (λ other. same_link other link) t.ready ≡ false

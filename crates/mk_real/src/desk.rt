@@ -1,5 +1,5 @@
 //! What all links share: the system's set of sockets, and a buffer.
-ghost use Rattle.std.specs.Prelude.{◌≡◌, ◌≢◌, ◌<◌, ◌≤◌, ◌++◌, [], true, IfOk, IfSome, length, drop};
+ghost use Rattle.std.specs.Prelude.{◌≡◌, ◌≢◌, ◌<◌, ◌≤◌, [], true, IfOk, IfSome, length};
 ghost use Rattle.mk_base.specs.Lists.{IsIn};
 ghost use Rattle.mk_outside.specs.Fleets.{ReadAs};
 
@@ -7,7 +7,7 @@ use crate::socket::Socket;
 use mio::event::Event;
 use mio::{Events, Poll, Registry};
 use mk_base::LinkNo;
-use mk_outside::ReadLink;
+use mk_outside::{ReadLink, put_front};
 use std::alloc::Global;
 use std::io;
 use std::io::ErrorKind;
@@ -231,13 +231,4 @@ pub fn mark<P: OpenProcess + Drop>(
         ready[place] = is_ready(sockets, *link);
     }
     ready[first] = true;
-}
-
-// Puts bytes at the front of a buffer.
-fn put_front(into: &mut [u8], bytes: &[u8])
-    requires { length bytes.now ≤ length into.old }
-    ensures { into.new ≡ bytes.now ++ drop (length bytes.now) into.old }
-{
-    let (front, _rest) = into.split_at_mut(bytes.len());
-    front.copy_from_slice(bytes);
 }

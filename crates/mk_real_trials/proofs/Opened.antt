@@ -4,8 +4,5 @@ use Rattle.mk_base.specs.declared.LinkNo.{LinkNo}
 use Rattle.mk_base.specs.Lists.{IsIn}
 use Rattle.mk_base.proofs.Lists.{in_back, in_front}
 
-pub is_open : (link : LinkNo) (before after : List LinkNo) → after ≡ before ++ link ∷ [] → IsIn link after
-is_open link before after is = subst (IsIn link) (sym is) (in_back link before (link ∷ []) (inl refl))
-
 pub stays_open : (link other : LinkNo) (before after : List LinkNo) → after ≡ before ++ other ∷ [] → IsIn link before → IsIn link after
 stays_open link other before after is there = subst (IsIn link) (sym is) (in_front link before (other ∷ []) there)

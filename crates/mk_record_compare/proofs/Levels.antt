@@ -3,10 +3,11 @@ use Rattle.std.proofs.Common.{◌≡◌, ℕ, ℤ, Bool, true, false, List, Opti
 use Rattle.mk_base.specs.declared.json.Json as tree
 use Rattle.mk_base.specs.declared.json.Json.{Json, Json-F, out-Json, roll-Json}
 use Rattle.mk_base.specs.declared.json.Json.TheVariants as v
-use Rattle.mk_base.specs.Trees.{is_null, bool_in, whole_in, text_in, items_in, members_in}
+use Rattle.mk_base.specs.Trees.{is_null, bool_in, whole_in, text_in, items_in, members_in, members_at, items_at}
 use Rattle.mk_base.proofs.Lists.{none_some}
 use Rattle.mk_json.proofs.Layers.{Steps, by_layers}
 use Rattle.mk_plan_same.specs.Decisions.{Decides}
+use Rattle.mk_base.proofs.Items.{some_is}
 
 rolled_steps : Steps (λ t. roll-Json (out-Json t) ≡ t)
 rolled_steps = record {
@@ -22,9 +23,6 @@ rolled_steps = record {
 -- a tree is what its level makes
 rolled : (t : Json) (l : Json-F Json) → out-Json t ≡ l → roll-Json l ≡ t
 rolled t l is = ap roll-Json (sym is) ∙ by_layers (λ t. roll-Json (out-Json t) ≡ t) rolled_steps t
-
-some_is : {X : Type 0} (x y : X) → Some x ≡ Some y → x ≡ y
-some_is x y e = cc
 
 -- a level at which a value stands, and the tree that it makes
 module _ {X : Type 0} (make : X → Json) (look : Json → Option X) (looked : (x : X) → look (make x) ≡ Some x) (made : (t : Json) (x : X) → look t ≡ Some x → make x ≡ t) where
@@ -59,17 +57,9 @@ made_text : (t : Json) (l : Json-F Json) (x : List ℕ) → out-Json t ≡ l →
 made_text t (Json-F.Text s) x is e = ap tree.Text (sym (some_is s x e)) ∙ sym (v.rolls-Text s) ∙ rolled t (Json-F.Text s) is
 made_text t _ x is e = absurd (none_some e)
 
-abbrev items_at : Json-F Json → Option (List Json)
-items_at (Json-F.List js) = Some js
-items_at _ = None
-
 made_list : (t : Json) (l : Json-F Json) (x : List Json) → out-Json t ≡ l → items_at l ≡ Some x → tree.List x ≡ t
 made_list t (Json-F.List js) x is e = ap tree.List (sym (some_is js x e)) ∙ sym (v.rolls-List js) ∙ rolled t (Json-F.List js) is
 made_list t _ x is e = absurd (none_some e)
-
-abbrev members_at : Json-F Json → Option (List (List ℕ × Json))
-members_at (Json-F.Object ms) = Some ms
-members_at _ = None
 
 made_object : (t : Json) (l : Json-F Json) (x : List (List ℕ × Json)) → out-Json t ≡ l → members_at l ≡ Some x → tree.Object x ≡ t
 made_object t (Json-F.Object ms) x is e = ap tree.Object (sym (some_is ms x e)) ∙ sym (v.rolls-Object ms) ∙ rolled t (Json-F.Object ms) is

@@ -17,7 +17,9 @@ use Rattle.mk_record_compare.specs.Differences.{IsFirstOther, IsOther}
 use Rattle.mk_record_compare.specs.inner.Matches.{left, AreMessages, IsMatch, IsNextNamed}
 use Rattle.mk_record_compare.specs.declared.first.Match.{Match}
 use Rattle.mk_record_compare.specs.declared.first.Match.TheVariants.{Neither, NextStep, NextMessage, Another, Behind}
-use Rattle.mk_record_compare.proofs.Walking.{Entries, IsCompared, on_neither, on_step, on_message, on_another, on_behind, compared_all, compared_short, some_left}
+use Rattle.mk_record_compare.proofs.Walking.{IsCompared, on_neither, on_step, on_message, on_another, on_behind, compared_all, compared_short, some_left}
+use Rattle.mk_record_compare.proofs.Places.{Entries}
+use Rattle.mk_record_read.proofs.Known.{kept_as}
 
 abbrev Came : Type 0
 Came = List journals.Arrival
@@ -184,12 +186,9 @@ module _ (messages : Option (List Arrival)) (count : ℕ) (J : List Entry) (asks
 
 -- ---- the messages, as the program keeps them
 
-abbrev kept : journals.Arrival → Arrival
-kept a = record { sim = record { 0 = a.sim }; message = a.message }
-
 pub all_kept : (A : Came) → (B : List Arrival) × (map came B ≡ A) × (length B ≡ length A)
 all_kept [] = ([], refl, refl)
-all_kept (a ∷ A) = let t = all_kept A in (kept a ∷ t.0, ap (λ (l : Came). a ∷ l) t.1, ap suc t.2)
+all_kept (a ∷ A) = let t = all_kept A in (kept_as a ∷ t.0, ap (λ (l : Came). a ∷ l) t.1, ap suc t.2)
 
 -- ---- the same of what the calls are given
 

@@ -8,7 +8,7 @@ use Rattle.mk_record_read.specs.declared.saved.Asked.{Asked}
 use Rattle.mk_record_read.specs.Entries.{RecordEntry, entries_of}
 use Rattle.mk_record_compare.specs.Differences.{IsFirstOther, IsFirstOtherOf, IsOther, entries_compared}
 
-abbrev Entries : Type 0
+abbrev pub Entries : Type 0
 Entries = List RecordEntry
 
 taken_front : (p q : Entries) → take (length p) (p ++ q) ≡ p

@@ -12,10 +12,7 @@ use Rattle.mk_record_read.specs.Entries.{RecordEntry, MessageOf, step_of, entrie
 use Rattle.mk_record_compare.specs.Differences.{IsFirstOther}
 use Rattle.mk_record_compare.specs.inner.Matches.{left, IsMatch}
 use Rattle.mk_record_compare.specs.declared.first.Match.TheVariants.{Neither, NextStep, NextMessage, Another, Behind}
-use Rattle.mk_record_compare.proofs.Places.{first_other_at, all_the_same}
-
-abbrev pub Entries : Type 0
-Entries = List RecordEntry
+use Rattle.mk_record_compare.proofs.Places.{first_other_at, all_the_same, Entries}
 
 -- what one entry of the journal adds
 one_none : (e : Entry) → entry_of e ≡ None → entries_of (e ∷ []) ≡ []

@@ -27,10 +27,9 @@ use Rattle.mk_plan.specs.declared.Entry.{Entry}
 use Rattle.mk_plan.specs.declared.Entry.TheVariants.{Sent, Got}
 use Rattle.mk_plan.specs.Journals.{Arrival, arrivals}
 use Rattle.mk_message.specs.Messages.{message_in, message_of, tested}
-use Rattle.mk_message.specs.Written.{message_tree, message_text, is_in_range, is_readable}
+use Rattle.mk_message.specs.Written.{message_tree, message_text, is_readable}
 use Rattle.mk_message.proofs.ReadBack.{message_of-written, range-framed, range-request}
 use Rattle.mk_plan_check.specs.Tests.{first_bad}
-use Rattle.mk_plan_check.proofs.Meaning.{is_same}
 use Rattle.mk_record_read.specs.declared.kinds.LineKind.TheVariants as kinds
 use Rattle.mk_record_read.specs.declared.saved.Asked.{Asked}
 use Rattle.mk_record_read.specs.Entries.{RecordEntry, StepOf, MessageOf, entries_of, entry_of}
@@ -40,16 +39,20 @@ use Rattle.mk_record_read.specs.Reading.{State, Step, Going, Ended, Bad, line_st
 use Rattle.mk_record_read.specs.Texts.{got_line, ask_line, entry_line}
 use Rattle.mk_record_laws.specs.Again.{steps_after, is_sayable, entry_fits}
 use Rattle.mk_record_laws.proofs.Clean.{all_clean, clean-append, clean-decimal}
-use Rattle.mk_record_laws.proofs.Fields.{Field, deeper, whole_field, natural_field, whole_of, read_items, cons_same, signed_is, decimal_is}
+use Rattle.mk_record_laws.proofs.Fields.{Field, deeper, whole_field, natural_field, read_items, cons_same, signed_is, decimal_is}
 use Rattle.mk_record_laws.proofs.Lines.{state, Reads, nothing, joined, a_line, entry_kind, stands, clean_line, below, small}
 use Rattle.mk_base.specs.Limits.{latest_end}
+use Rattle.mk_base.proofs.Views.{whole_in_whole}
+use Rattle.mk_base.proofs.Items.{same_text_self}
+use Rattle.mk_plan.specs.Messages.{is_message_in_range}
+use Rattle.mk_plan.proofs.Sending.{arrival_of}
 
 -- ---- messages
 
 id_low : (m : Message) (id : ℕ) → nat_lt id (2 ^ 63) ≡ true → id < 2 ^ 64
 id_low m id h = let low = ltb-true id (2 ^ 63) h in omega (arith, low)
 
-tree_in_range : (m : Message) → is_readable m ≡ true → is_in_range m ≡ true → trees.is_in_range (message_tree m) ≡ true
+tree_in_range : (m : Message) → is_readable m ≡ true → is_message_in_range m ≡ true → trees.is_in_range (message_tree m) ≡ true
 tree_in_range (messages.Ask id name args named) r h =
     let p = and_parts (nat_lt id (2 ^ 63)) (is_object named) r in
     range-framed _ (tree.List (tree.Text name ∷ tree.List args ∷ named ∷ [])) 0 id refl (omega arith) (id_low (messages.Ask id name args named) id p.0) (range-request (tree.List (tree.Text name ∷ tree.List args ∷ named ∷ [])) named name args refl h)
@@ -63,9 +66,9 @@ record Sayable (m : Message) : Type 0 where
 
 sayable : (m : Message) → is_sayable m ≡ true → Sayable m
 sayable m h =
-    let p = and_parts ((is_readable m && is_in_range m) && is_proper (message_tree m)) (nat_le (nesting (message_tree m)) 126) h in
-    let q = and_parts (is_readable m && is_in_range m) (is_proper (message_tree m)) p.0 in
-    let r = and_parts (is_readable m) (is_in_range m) q.0 in
+    let p = and_parts ((is_readable m && is_message_in_range m) && is_proper (message_tree m)) (nat_le (nesting (message_tree m)) 126) h in
+    let q = and_parts (is_readable m && is_message_in_range m) (is_proper (message_tree m)) p.0 in
+    let r = and_parts (is_readable m) (is_message_in_range m) q.0 in
     record { readable = r.0; field = record { proper = q.1; ranges = tree_in_range m r.0 r.1; deep = leb-true (nesting (message_tree m)) 126 p.1 } }
 
 message_again : (m : Message) → Sayable m → message_in (message_tree m) ≡ Ok m
@@ -74,14 +77,11 @@ message_again m s =
     let back : parsed (text_of (message_tree m)) ≡ Some (message_tree m) = parsed-text_of (message_tree m) s.field.proper s.field.ranges shallow in
     sym (ap (λ o. tested 1 o message_in) back) ∙ message_of-written m (message_tree m) (text_of (message_tree m)) [] refl refl refl (λ _. back) s.readable shallow
 
-abbrev arrival : ℕ → Message → Arrival
-arrival s m = record { sim = s; message = m }
-
-arrival_again : (P : Plan) (s : ℕ) (m : Message) → s < length P.sims → Sayable m → arrival_in P (tree.Whole (pos s) ∷ message_tree m ∷ []) ≡ Ok (arrival s m)
+arrival_again : (P : Plan) (s : ℕ) (m : Message) → s < length P.sims → Sayable m → arrival_in P (tree.Whole (pos s) ∷ message_tree m ∷ []) ≡ Ok (arrival_of s m)
 arrival_again P s m low say =
-    ap (λ o. tested misformed o (λ z. tested misformed (result_ok (message_in (message_tree m))) (λ n. limited (is_below (length P.sims) z) (arrival (nat_abs z) n)))) (whole_of (pos s))
-    ∙ ap (λ r. tested misformed (result_ok r) (λ n. limited (is_below (length P.sims) (pos s)) (arrival s n))) (message_again m say)
-    ∙ ap (λ b. limited b (arrival s m)) (below (length P.sims) s low)
+    ap (λ o. tested misformed o (λ z. tested misformed (result_ok (message_in (message_tree m))) (λ n. limited (is_below (length P.sims) z) (arrival_of (nat_abs z) n)))) (whole_in_whole (pos s))
+    ∙ ap (λ r. tested misformed (result_ok r) (λ n. limited (is_below (length P.sims) (pos s)) (arrival_of s n))) (message_again m say)
+    ∙ ap (λ b. limited b (arrival_of s m)) (below (length P.sims) s low)
 
 got_read : (P : Plan) → first_bad P ≡ None → length P.sims ≤ 200 → (last : ℕ) (A : List Arrival) (steps : List Asked) (a : Arrival) → 3 ≤ last → last ≤ 8 → entry_fits P (MessageOf a) ≡ true
     → Reads (state last P A steps) (got_line a) (state 8 P (A ++ a ∷ []) steps)
@@ -115,7 +115,7 @@ ask_read P valid few last A steps sim at advance low high fits =
     let S : State = state last P A steps in
     let within : is_below (length P.sims) (pos sim) ≡ true = below (length P.sims) sim inside in
     let limits : step_fits at.time (pos at.tier) advance ≡ true = p.1 in
-    let again : asked_in P (length A) ts ≡ Ok (record { before = length A; sim = record { 0 = sim }; at = at; max_advance = advance }) = rw (whole_of (pos sim), whole_of at.time, whole_of (pos at.tier), whole_of advance, within, limits) refl in
+    let again : asked_in P (length A) ts ≡ Ok (record { before = length A; sim = record { 0 = sim }; at = at; max_advance = advance }) = rw (whole_in_whole (pos sim), whole_in_whole at.time, whole_in_whole (pos at.tier), whole_in_whole advance, within, limits) refl in
     a_line S (state 8 P A (steps ++ record { before = length A; sim = record { 0 = sim }; at = at; max_advance = advance } ∷ [])) (codes "ask " ++ list_text fields) (clean_line (codes "ask ") fields ts refl are each)
     (entry_kind last P A steps kinds.Ask (list_text fields) valid (stands last 8 low high)
     ∙ ap (λ o. asked S steps (tested misformed o (asked_in P (length A)))) (ap (λ fs. items_read (list_text fs)) are ∙ read_items ts each)
@@ -135,7 +135,7 @@ arrivals_said (Sent s (items.Step at ins advance) ∷ J) = arrivals_said J
 arrivals_said (Sent s (items.GetData wanted) ∷ J) = arrivals_said J
 arrivals_said (Sent s (items.Answer id content) ∷ J) = arrivals_said J
 arrivals_said (Sent s (items.Refuse id reason) ∷ J) = arrivals_said J
-arrivals_said (Got s m ∷ J) = ap (λ l. arrival s.0 m ∷ l) (arrivals_said J)
+arrivals_said (Got s m ∷ J) = ap (λ l. arrival_of s.0 m ∷ l) (arrivals_said J)
 
 pub counted : (n : ℕ) (es : List RecordEntry) → length es ≡ length (said es) + length (steps_after n es)
 counted n [] = refl
@@ -176,4 +176,4 @@ pub end_read : (P : Plan) → first_bad P ≡ None → (last : ℕ) (A : List Ar
 end_read P valid last A steps count low high is =
     entry_kind last P A steps kinds.End (decimal count) valid (stands last 9 low (omega arith))
     ∙ ap (λ n. end_step n (decimal count)) (sym is)
-    ∙ ap (λ b. cond b Ended (cond (is_number (decimal count)) (Bad miscounted) (Bad misformed))) (is_same (decimal count))
+    ∙ ap (λ b. cond b Ended (cond (is_number (decimal count)) (Bad miscounted) (Bad misformed))) (same_text_self (decimal count))

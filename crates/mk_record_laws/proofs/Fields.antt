@@ -18,6 +18,7 @@ use Rattle.mk_json.proofs.Back.{parsed-text_of}
 use Rattle.mk_json.proofs.LevelTests.{range-List, proper-List}
 use Rattle.mk_json.proofs.OfOutlines.{range-Whole, proper-Bool, proper-Whole, proper-Text}
 use Rattle.mk_json.proofs.Layers.{folded-Bool, folded-Whole, folded-Text, folded-List}
+use Rattle.mk_base.proofs.Views.{items_in_list, text_in_text, whole_in_whole}
 
 -- a tree that is read again from its text, and nests no deeper than this
 pub record Field (depth : ℕ) (t : Json) : Type 0 where
@@ -58,15 +59,6 @@ list_field d ts h = record {
 
 -- ---- trees that are made, looked into
 
-pub items_of_list : (ts : List Json) → items_in (tree.List ts) ≡ Some ts
-items_of_list ts = rw (v.outs-List ts) refl
-
-pub whole_of : (n : ℤ) → whole_in (tree.Whole n) ≡ Some n
-whole_of n = rw (v.outs-Whole n) refl
-
-pub text_of_text : (s : List ℕ) → text_in (tree.Text s) ≡ Some s
-text_of_text s = rw (v.outs-Text s) refl
-
 pub text_of_list : (ts : List Json) → text_in (tree.List ts) ≡ None
 text_of_list ts = rw (v.outs-List ts) refl
 
@@ -77,7 +69,7 @@ bool_of b = rw (v.outs-Bool b) refl
 pub read_items : (ts : List Json) → Each (Field 126) ts → option_and_then items_in (parsed (list_text (map text_of ts))) ≡ Some ts
 read_items ts h =
     let f = list_field 126 ts h in
-    ap (λ x. option_and_then items_in (parsed x)) (sym (folded-List _ _ ts)) ∙ ap (option_and_then items_in) (parsed-text_of (tree.List ts) f.proper f.ranges f.deep) ∙ items_of_list ts
+    ap (λ x. option_and_then items_in (parsed x)) (sym (folded-List _ _ ts)) ∙ ap (option_and_then items_in) (parsed-text_of (tree.List ts) f.proper f.ranges f.deep) ∙ items_in_list ts
 
 -- ---- their texts
 
@@ -120,15 +112,15 @@ quoted_each (s ∷ ss) = cons_same (quoted_is s) (quoted_each ss)
 
 pub wholes_there : (ns : List ℤ) → all_there (map whole_in (wholes ns)) ≡ Some ns
 wholes_there [] = refl
-wholes_there (n ∷ ns) = rw (whole_of n, wholes_there ns) refl
+wholes_there (n ∷ ns) = rw (whole_in_whole n, wholes_there ns) refl
 
 pub naturals_there : (ns : List ℕ) → all_there (map whole_in (naturals ns)) ≡ Some (map pos ns)
 naturals_there [] = refl
-naturals_there (n ∷ ns) = rw (whole_of (pos n), naturals_there ns) refl
+naturals_there (n ∷ ns) = rw (whole_in_whole (pos n), naturals_there ns) refl
 
 pub texts_there : (ss : List (List ℕ)) → all_there (map text_in (texts ss)) ≡ Some ss
 texts_there [] = refl
-texts_there (s ∷ ss) = rw (text_of_text s, texts_there ss) refl
+texts_there (s ∷ ss) = rw (text_in_text s, texts_there ss) refl
 
 pub same_naturals : (ns : List ℕ) → map nat_abs (map pos ns) ≡ ns
 same_naturals [] = refl

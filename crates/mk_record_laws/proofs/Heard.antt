@@ -21,8 +21,9 @@ use Rattle.mk_record_laws.proofs.Sound.{sound_tree}
 use Rattle.mk_record_laws.specs.Again.{IsRecordable, entry_fits, is_sayable}
 use Rattle.mk_record_laws.specs.Readable.{IsHeard, IsReadable, MayStand}
 use Rattle.mk_record_laws.specs.inner.Readable.{HasNames}
-use Rattle.mk_record_laws.proofs.Messages.{passed, message_is, message_sayable}
+use Rattle.mk_record_laws.proofs.Messages.{message_is, message_sayable}
 use Rattle.mk_record_laws.proofs.Recorded.{models_few}
+use Rattle.mk_message.proofs.Ranges.{passed}
 
 -- what was read of a payload, and isn't too deep, may stand in a line
 heard_sayable : (m : Message) → IsHeard m → is_sayable m ≡ true

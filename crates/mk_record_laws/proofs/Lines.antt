@@ -42,8 +42,10 @@ use Rattle.mk_record_read.specs.Texts.{via_text, bool_text, initial_text, run_li
 use Rattle.mk_record_read.proofs.Splitting.{reads_on}
 use Rattle.mk_record_laws.specs.Again.{model_is_text, conn_is_text}
 use Rattle.mk_record_laws.proofs.Clean.{clean, all_clean, clean-append, clean-text}
-use Rattle.mk_record_laws.proofs.Fields.{Field, deeper, text_field, whole_field, bool_field, list_field, natural_field, text_fields, items_of_list, whole_of, text_of_text, text_of_list, bool_of, read_items, cons_same, quoted_is, signed_is, decimal_is, list_is, wholes, naturals, texts, signed_each, decimal_each, quoted_each, wholes_there, naturals_there, texts_there, same_naturals}
+use Rattle.mk_record_laws.proofs.Fields.{Field, deeper, text_field, whole_field, bool_field, list_field, natural_field, text_fields, text_of_list, bool_of, read_items, cons_same, quoted_is, signed_is, decimal_is, list_is, wholes, naturals, texts, signed_each, decimal_each, quoted_each, wholes_there, naturals_there, texts_there, same_naturals}
 use Rattle.mk_base.specs.Limits.{latest_end}
+use Rattle.mk_base.proofs.Bools.{and_false}
+use Rattle.mk_base.proofs.Views.{items_in_list, text_in_text, whole_in_whole}
 
 -- what stands in the lines so far, in version 2
 abbrev pub state : ℕ → Plan → List Arrival → List Asked → State
@@ -75,10 +77,6 @@ cut_line (b ∷ line) rest h =
 
 pub a_line : (S T : State) (line : List ℕ) → all_clean line ≡ true → line_step S line ≡ Going T → Reads S (line ++ codes "\n") T
 a_line S T line h e n rest = (n + 1, ap (reading_from S n) (cut_line line rest h) ∙ reads_on S T n line rest e)
-
-and_false : (b : Bool) → (b && false) ≡ false
-and_false true = refl
-and_false false = refl
 
 -- the tests of a line of the plan
 pub plan_kind : (last : ℕ) (P : Plan) (A : List Arrival) (steps : List Asked) (kind : LineKind) (text : List ℕ) → nat_le 8 (place kind) ≡ false → may_stand last kind ≡ true
@@ -151,7 +149,7 @@ run_read P until l0 l1 e0 e1 =
     (cons_same (signed_is P.until) (cons_same (decimal_is P.loops) (cons_same (decimal_is P.entries) refl)))
     (whole_field 126 P.until (small_1 P.until 1000000000 (omega arith) until), (natural_field 126 P.loops 1000 l1 (omega arith), (natural_field 126 P.entries 20000000 e1 (omega arith), tt)))
     (let fits : lines.run_fits P.until (pos P.loops) (pos P.entries) ≡ true = and_from _ _ (and_from _ _ until (between_from_1 P.loops 1000 l0 l1)) (between_from_1 P.entries 20000000 e0 e1) in
-    rw (whole_of P.until, whole_of (pos P.loops), whole_of (pos P.entries), fits) refl)
+    rw (whole_in_whole P.until, whole_in_whole (pos P.loops), whole_in_whole (pos P.entries), fits) refl)
 
 -- ---- `sim`
 
@@ -188,7 +186,7 @@ sim_read P last done s may fits =
     (cons_same (quoted_is s.id) (cons_same (quoted_is (kind_name s.kind)) (cons_same (decimal_is s.first_id) (cons_same (decimal_is s.rank) (cons_same (list_is (wholes s.initial) (map signed_decimal s.initial) (signed_each s.initial)) refl)))))
     (text_field 126 s.id fits.text, (text_field 126 (kind_name s.kind) (kind_text s.kind), (natural_field 126 s.first_id 1000000 fits.first_id (omega arith), (natural_field 126 s.rank 199 fits.rank (omega arith), (list_field 125 (wholes s.initial) (event_fields s.initial fits.events), tt)))))
     (let limits : lines.sim_fits (pos s.first_id) (pos s.rank) s.initial ≡ true = and_from _ _ (and_from _ _ (between s.first_id 1000000 fits.first_id) (between s.rank 199 fits.rank)) fits.events in
-    rw (text_of_text s.id, text_of_text (kind_name s.kind), whole_of (pos s.first_id), whole_of (pos s.rank), items_of_list (wholes s.initial), wholes_there s.initial, named_kind s.kind, limits) refl)
+    rw (text_in_text s.id, text_in_text (kind_name s.kind), whole_in_whole (pos s.first_id), whole_in_whole (pos s.rank), items_in_list (wholes s.initial), wholes_there s.initial, named_kind s.kind, limits) refl)
 
 -- ---- `model`
 
@@ -210,7 +208,7 @@ model_read P few last done m low high fits =
     refl (λ S X. refl) (λ S X. refl) refl (stands last 4 low high)
     (cons_same (decimal_is m.sim.0) (cons_same (quoted_is m.name) (cons_same (list_is (texts m.attrs) (map quoted m.attrs) (quoted_each m.attrs)) (cons_same (bool_is m.any_inputs) refl))))
     (natural_field 126 m.sim.0 200 sim (omega arith), (text_field 126 m.name utf8.0, (list_field 125 (texts m.attrs) (text_fields 125 m.attrs utf8.1), (bool_field 126 m.any_inputs, tt))))
-    (rw (whole_of (pos m.sim.0), text_of_text m.name, items_of_list (texts m.attrs), texts_there m.attrs, bool_of m.any_inputs, below (length P.sims) m.sim.0 fits.sim) refl)
+    (rw (whole_in_whole (pos m.sim.0), text_in_text m.name, items_in_list (texts m.attrs), texts_there m.attrs, bool_of m.any_inputs, below (length P.sims) m.sim.0 fits.sim) refl)
 
 -- ---- `entity`
 
@@ -241,7 +239,7 @@ entity_read P count few many last done e low high fits =
     (cons_same (decimal_is e.model) (cons_same (quoted_is e.eid) (cons_same (list_is (naturals e.related) (map decimal e.related) (decimal_each e.related)) refl)))
     (natural_field 126 e.model 2000000 model (omega arith), (text_field 126 e.eid fits.text, (list_field 125 (naturals e.related) (related_fields count e.related few fits.related), tt)))
     (let limits : lines.entity_fits (length P.models) (pos e.model) (map pos e.related) ≡ true = and_from _ _ (below (length P.models) e.model fits.model) (related_below count e.related few fits.related) in
-    rw (whole_of (pos e.model), text_of_text e.eid, items_of_list (naturals e.related), naturals_there e.related, limits, same_naturals e.related) refl)
+    rw (whole_in_whole (pos e.model), text_in_text e.eid, items_in_list (naturals e.related), naturals_there e.related, limits, same_naturals e.related) refl)
 
 -- ---- `conn`
 
@@ -296,9 +294,9 @@ way_of (Shift width) = (codes "shift", Some (pos width))
 way_of Weak = (codes "weak", None)
 
 way_read : (v : Via) → way_in true (via_tree v) ≡ Some (way_of v)
-way_read Plain = rw (text_of_text (codes "plain")) refl
-way_read (Shift w) = rw (text_of_list (tree.Text (codes "shift") ∷ tree.Whole (pos w) ∷ []), items_of_list (tree.Text (codes "shift") ∷ tree.Whole (pos w) ∷ []), text_of_text (codes "shift"), whole_of (pos w)) refl
-way_read Weak = rw (text_of_text (codes "weak")) refl
+way_read Plain = rw (text_in_text (codes "plain")) refl
+way_read (Shift w) = rw (text_of_list (tree.Text (codes "shift") ∷ tree.Whole (pos w) ∷ []), items_in_list (tree.Text (codes "shift") ∷ tree.Whole (pos w) ∷ []), text_in_text (codes "shift"), whole_in_whole (pos w)) refl
+way_read Weak = rw (text_in_text (codes "weak")) refl
 
 via_read : (v : Via) → tests.width_fits v ≡ true → via_of true (way_of v) ≡ Some v
 via_read Plain h = refl
@@ -307,7 +305,7 @@ via_read Weak h = refl
 
 -- an initial value, as a tree that nests as deep as its text says
 initial_tree : (o : Option (List ℕ)) → IfSome o IsDatumText → tests.initial_fits o ≡ true → (t : Json) × (initial_text o ≡ text_of t) × Field 126 t × (initial_in t ≡ Some o)
-initial_tree None h fits = (tree.List [], list_is [] [] refl, list_field 125 [] tt, rw (items_of_list []) refl)
+initial_tree None h fits = (tree.List [], list_is [] [] refl, list_field 125 [] tt, rw (items_in_list []) refl)
 initial_tree (Some text) h fits =
     let low : nat_le (nesting h.tree) value_depth ≡ true = subst (λ n. nat_le n value_depth ≡ true) (sym (ap nesting_of h.is) ∙ nesting_is h.tree) fits in
     let shallow : nesting h.tree ≤ 125 = (let q = leb-true (nesting h.tree) 100 low in omega arith) in
@@ -315,7 +313,7 @@ initial_tree (Some text) h fits =
       tree.List (h.tree ∷ []),
       list_is (h.tree ∷ []) (text ∷ []) (cons_same (sym h.is) refl),
       list_field 125 (h.tree ∷ []) (record { proper = h.proper; ranges = h.in_range; deep = shallow }, tt),
-      rw (items_of_list (h.tree ∷ []), datum) (ap (λ x. Some (Some x)) h.is),
+      rw (items_in_list (h.tree ∷ []), datum) (ap (λ x. Some (Some x)) h.is),
     )
 
 pub conn_read : (P : Plan) → length P.entities ≤ 10000 → (last : ℕ) (done : List Conn) (c : Conn) → 3 ≤ last → last ≤ 6 → ConnFits (length P.entities) c
@@ -343,7 +341,7 @@ conn_read P few last done c low high fits =
       ),
     )
     (let inside : (is_below (length P.entities) (pos c.from) && is_below (length P.entities) (pos c.to)) ≡ true = and_from _ _ (below (length P.entities) c.from fits.from) (below (length P.entities) c.to fits.to) in
-    rw (whole_of (pos c.from), text_of_text c.from_attr, whole_of (pos c.to), text_of_text c.to_attr, way_read c.via, bool_of c.persistent, bool_of c.triggering, first.3, via_read c.via fits.width, inside) refl)
+    rw (whole_in_whole (pos c.from), text_in_text c.from_attr, whole_in_whole (pos c.to), text_in_text c.to_attr, way_read c.via, bool_of c.persistent, bool_of c.triggering, first.3, via_read c.via fits.width, inside) refl)
 
 -- ---- `async`
 
@@ -366,7 +364,7 @@ async_read P few last done p low high fits =
     (cons_same (decimal_is p.from.0) (cons_same (decimal_is p.to.0) refl))
     (natural_field 126 p.from.0 200 from (omega arith), (natural_field 126 p.to.0 200 to (omega arith), tt))
     (let inside : (is_below (length P.sims) (pos p.from.0) && is_below (length P.sims) (pos p.to.0)) ≡ true = and_from _ _ (below (length P.sims) p.from.0 fits.from) (below (length P.sims) p.to.0 fits.to) in
-    rw (whole_of (pos p.from.0), whole_of (pos p.to.0), inside) refl)
+    rw (whole_in_whole (pos p.from.0), whole_in_whole (pos p.to.0), inside) refl)
 
 -- ---- parts, one after another
 

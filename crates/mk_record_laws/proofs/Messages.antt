@@ -14,9 +14,10 @@ use Rattle.mk_base.specs.Proper.{is_proper}
 use Rattle.mk_message.specs.declared.reading.Kind.{Kind}
 use Rattle.mk_message.specs.declared.reading.Kind.TheVariants as kind
 use Rattle.mk_message.specs.Messages.{three_of, three_in, kind_numbered, kind_in, id_numbered, id_in, request_in, content_in, tested, message_in}
-use Rattle.mk_message.specs.Written.{message_tree, is_readable, is_in_range}
-use Rattle.mk_message.proofs.Ranges.{fits_in}
+use Rattle.mk_message.specs.Written.{message_tree, is_readable}
+use Rattle.mk_message.proofs.Ranges.{fits_in, same_ok, passed}
 use Rattle.mk_record_laws.proofs.Trees.{text_is, whole_is, items_are, IsSoundField}
+use Rattle.mk_plan.specs.Messages.{is_message_in_range}
 
 -- ---- the three parts of a message
 
@@ -116,13 +117,6 @@ content_is kind.Request id t m low e = request_is id t m low e
 content_is kind.Success id t m low e = subst (IsOf (framed kind.Success id t)) (some_same e) (record { is = refl; readable = low })
 content_is kind.Failure id t m low e = failure_is id t m low e
 
-pub passed : {A : Type 0} (n : ℕ) (o : Option A) (next : A → Result Message ℕ) (m : Message) → tested n o next ≡ Ok m → (x : A) × (o ≡ Some x) × (next x ≡ Ok m)
-passed n None next m e = cc
-passed n (Some x) next m e = (x, refl, e)
-
-same_ok : (r : Result Message ℕ) (m n : Message) → r ≡ Ok m → r ≡ Ok n → m ≡ n
-same_ok r m n e f = cc
-
 pub message_is : (t : Json) (m : Message) → message_in t ≡ Ok m → IsOf t m
 message_is t m e =
     let p = passed 2 (three_in t) (λ (p : Json × Json × Json). tested 3 (kind_in p.0) (λ kind. tested 4 (id_in p.1) (λ id. tested 5 (content_in kind id p.2) (λ m. Ok m)))) m e in
@@ -134,7 +128,7 @@ message_is t m e =
     subst (λ (x : Json). IsOf x m) (sym whole) (content_is k.0 i.0 p.0.2 m id.1 (c.1 ∙ ap Some (same_ok (Ok c.0) c.0 m refl c.2)))
 
 -- a message that was read from a sound field may stand in a line
-pub message_sayable : (t : Json) (m : Message) → message_in t ≡ Ok m → IsSoundField t → (is_readable m && is_in_range m && is_proper (message_tree m) && nat_le (nesting (message_tree m)) 126) ≡ true
+pub message_sayable : (t : Json) (m : Message) → message_in t ≡ Ok m → IsSoundField t → (is_readable m && is_message_in_range m && is_proper (message_tree m) && nat_le (nesting (message_tree m)) 126) ≡ true
 message_sayable t m e h =
     let of = message_is t m e in
     and_from _ _ (and_from _ _ (and_from _ _ of.readable (fits_in t m e h.in_range)) (sym (ap is_proper of.is) ∙ h.proper)) (sym (ap (λ (x : Json). nat_le (nesting x) 126) of.is) ∙ le-leb (nesting t) 126 h.nests)

@@ -24,14 +24,12 @@ use Rattle.mk_record_laws.specs.Again.{IsRecordable, entry_fits}
 use Rattle.mk_record_laws.proofs.Counting.{all_counted}
 use Rattle.mk_record_laws.proofs.Steps.{StepFits, EntryFits, steps_fit}
 use Rattle.mk_record_laws.proofs.Texts.{CanBeSaid, said_well}
-
-between : (n : ℤ) (high : ℕ) → (pos 0 ≤ℤ n) × (n ≤ℤ pos high) → (int_le (pos 0) n && int_le n (pos high)) ≡ true
-between n high h = let a = h.0 in let b = h.1 in grind (arith, ints, a, b)
+use Rattle.mk_base.proofs.Counts.{between_test}
 
 step_line : (P : Plan) (s : ℕ) (x : Tier) (advance : ℤ) → StepFits P s x advance → entry_fits P (StepOf s x advance) ≡ true
 step_line P s x advance h =
     let tier : (pos 0 ≤ℤ pos x.tier) × (pos x.tier ≤ℤ pos 1000) = (let t = h.tier in (grind (arith, ints, t), grind (arith, ints, t))) in
-    and_from _ _ (lt-ltb s (sim_count P) h.sim) (and_from _ _ (and_from _ _ (between x.time 1000000000 h.time) (between (pos x.tier) 1000 tier)) (between advance 1000000000 h.ahead))
+    and_from _ _ (lt-ltb s (sim_count P) h.sim) (and_from _ _ (and_from _ _ (between_test x.time 1000000000 h.time) (between_test (pos x.tier) 1000 tier)) (between_test advance 1000000000 h.ahead))
 
 entries_fit : (P : Plan) (J : List Entry) → Each (EntryFits P) J → Each CanBeSaid (arrivals J) → list_all (entry_fits P) (entries_of J) ≡ true
 entries_fit P [] fits said = refl

@@ -35,6 +35,8 @@ use Rattle.std.specs.Fmt.{decimal}
 use Rattle.mk_record_laws.specs.Again.{HasTexts, is_sayable, model_is_text, conn_is_text}
 use Rattle.mk_record_laws.proofs.Trees.{IsSoundField, read_sound, items_are, text_utf8, texts_utf8}
 use Rattle.mk_record_laws.proofs.Messages.{message_sayable}
+use Rattle.mk_base.proofs.Items.{each_behind, list_all_push}
+use Rattle.mk_record_read.proofs.Known.{ok-is}
 
 -- ---- what a line's fields give
 
@@ -50,14 +52,6 @@ found_passes Q n (Some x) f h = h x refl
 limited_passes : {Y : Type 0} (Q : Y → Type 0) (b : Bool) (y : Y) → Q y → Passes Q (limited b y)
 limited_passes Q true y h = h
 limited_passes Q false y h = tt
-
-all_push : {X : Type 0} (p : X → Bool) (xs : List X) (x : X) → list_all p xs ≡ true → p x ≡ true → list_all p (xs ++ x ∷ []) ≡ true
-all_push p [] x h q = and_from _ _ q refl
-all_push p (y ∷ xs) x h q = let t = and_parts (p y) (list_all p xs) h in and_from _ _ t.0 (all_push p xs x t.1 q)
-
-each_push : {X : Type 0} (Q : X → Type 0) (xs : List X) (x : X) → Each Q xs → Q x → Each Q (xs ++ x ∷ [])
-each_push Q [] x h q = (q, tt)
-each_push Q (y ∷ xs) x h q = (h.0, each_push Q xs x h.1 q)
 
 run_passes : (P : Plan) (items : List Json) → HasTexts P → Passes HasTexts (with_run P items)
 run_passes P [] h = tt
@@ -79,7 +73,7 @@ sim_passes P (id ∷ type ∷ first ∷ rank ∷ events ∷ []) s h =
     found_passes HasTexts out_of_limits (kind_named t) _ (λ k _.
     let sim : PlanSim = record { id = i; kind = k; first_id = nat_abs f; rank = nat_abs r; initial = es } in
     limited_passes HasTexts (sim_fits f r es) (record P { sims = P.sims ++ sim ∷ [] }) (record {
-      sims = all_push (λ (s : PlanSim). is_utf8 s.id) P.sims sim h.sims (text_utf8 id i is s.0.proper);
+      sims = list_all_push (λ (s : PlanSim). is_utf8 s.id) P.sims sim h.sims (text_utf8 id i is s.0.proper);
       models = h.models;
       entities = h.entities;
       conns = h.conns;
@@ -96,7 +90,7 @@ model_passes P (sim ∷ name ∷ attrs ∷ any ∷ []) s h =
     found_passes HasTexts misformed (whole_in sim) _ (λ z _. found_passes HasTexts misformed (text_in name) _ (λ n is. found_passes HasTexts misformed (texts_in attrs) _ (λ ts are. found_passes HasTexts misformed (bool_in any) _ (λ a _.
     limited_passes HasTexts (is_below (length P.sims) z) (record P { models = P.models ++ record { sim = record { 0 = nat_abs z }; name = n; attrs = ts; any_inputs = a } ∷ [] }) (record {
       sims = h.sims;
-      models = all_push model_is_text P.models (record { sim = record { 0 = nat_abs z }; name = n; attrs = ts; any_inputs = a }) h.models (and_from _ _ (text_utf8 name n is s.1.0.proper) (texts_utf8 attrs ts are s.1.1.0.proper));
+      models = list_all_push model_is_text P.models (record { sim = record { 0 = nat_abs z }; name = n; attrs = ts; any_inputs = a }) h.models (and_from _ _ (text_utf8 name n is s.1.0.proper) (texts_utf8 attrs ts are s.1.1.0.proper));
       entities = h.entities;
       conns = h.conns;
       initials = h.initials;
@@ -112,7 +106,7 @@ entity_passes P (model ∷ eid ∷ related ∷ []) s h =
     limited_passes HasTexts (entity_fits (length P.models) m rs) (record P { entities = P.entities ++ record { model = nat_abs m; eid = e; related = map nat_abs rs } ∷ [] }) (record {
       sims = h.sims;
       models = h.models;
-      entities = all_push (λ (e : PlanEntity). is_utf8 e.eid) P.entities (record { model = nat_abs m; eid = e; related = map nat_abs rs }) h.entities (text_utf8 eid e is s.1.0.proper);
+      entities = list_all_push (λ (e : PlanEntity). is_utf8 e.eid) P.entities (record { model = nat_abs m; eid = e; related = map nat_abs rs }) h.entities (text_utf8 eid e is s.1.0.proper);
       conns = h.conns;
       initials = h.initials;
     }))))
@@ -168,8 +162,8 @@ way_passes second P from from_attr to to_attr (via ∷ persistent ∷ triggering
       sims = h.sims;
       models = h.models;
       entities = h.entities;
-      conns = all_push conn_is_text P.conns conn h.conns (and_from _ _ x y);
-      initials = each_push (λ (c : Conn). IfSome c.initial IsDatumText) P.conns conn h.initials (initial_data initial i s.1.1.1.0 is);
+      conns = list_all_push conn_is_text P.conns conn h.conns (and_from _ _ x y);
+      initials = each_behind (λ (c : Conn). IfSome c.initial IsDatumText) P.conns conn h.initials (initial_data initial i s.1.1.1.0 is);
     }))))))
 way_passes second P from from_attr to to_attr (a ∷ b ∷ c ∷ d ∷ e ∷ more) x y s h = tt
 
@@ -207,16 +201,12 @@ part_passes second End P items s h = tt
 abbrev pub CanBeSaid : Arrival → Type 0
 CanBeSaid a = is_sayable a.message ≡ true
 
-ok_is : (r : Result Message ℕ) (m : Message) → result_ok r ≡ Some m → r ≡ Ok m
-ok_is (Ok n) m e = ap Ok (some_same e)
-ok_is (Err n) m e = absurd (none_some e)
-
 arrival_passes : (P : Plan) (items : List Json) → Each IsSoundField items → Passes CanBeSaid (arrival_in P items)
 arrival_passes P [] s = tt
 arrival_passes P (a ∷ []) s = tt
 arrival_passes P (sim ∷ message ∷ []) s =
     found_passes CanBeSaid misformed (whole_in sim) _ (λ z _. found_passes CanBeSaid misformed (result_ok (message_in message)) _ (λ m is.
-    limited_passes CanBeSaid (is_below (length P.sims) z) (record { sim = nat_abs z; message = m }) (message_sayable message m (ok_is (message_in message) m is) s.1.0)))
+    limited_passes CanBeSaid (is_below (length P.sims) z) (record { sim = nat_abs z; message = m }) (message_sayable message m (ok-is (message_in message) m is) s.1.0)))
 arrival_passes P (a ∷ b ∷ c ∷ more) s = tt
 
 -- ---- line by line
@@ -236,7 +226,7 @@ planned_keeps S kind (Ok P) made h = record { texts = h; messages = made.message
 planned_keeps S kind (Err n) made h = tt
 
 arrived_keeps : (S : State) (r : Result Arrival ℕ) → IsMade S → Passes CanBeSaid r → Keeps (arrived S r)
-arrived_keeps S (Ok a) made h = record { texts = made.texts; messages = each_push CanBeSaid S.arrivals a made.messages h }
+arrived_keeps S (Ok a) made h = record { texts = made.texts; messages = each_behind CanBeSaid S.arrivals a made.messages h }
 arrived_keeps S (Err n) made h = tt
 
 asked_keeps : (S : State) (steps : List Asked) (r : Result Asked ℕ) → IsMade S → Keeps (asked S steps r)

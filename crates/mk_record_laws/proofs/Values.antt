@@ -22,6 +22,7 @@ use Rattle.mk_base.specs.Proper.{is_proper, names_rise}
 use Rattle.mk_json.proofs.LevelTests.{proper-List, proper-Object}
 use Rattle.mk_json.proofs.OfOutlines.{proper-Null, proper-Bool, proper-Whole, proper-Odd, proper-Text}
 use Rattle.mk_record_laws.proofs.Tokens.{ValueHasTexts, ItemsHaveTexts, MembersHaveTexts, Held, value_text}
+use Rattle.mk_base.proofs.Bools.{less_is}
 
 abbrev Fits : {A : Type 0} → (A → Type 0) → Option A → Type 0
 Fits Q None = ⊤
@@ -53,11 +54,6 @@ record AreInOrder (ms : Members) : Type 0 where
 
 abbrev after : List ℕ → List ℕ → Bool
 after k l = is_lt (slice_cmp nat_cmp k l)
-
-less_is : (o : Ordering) → is_lt o ≡ true → o ≡ Less
-less_is Less e = refl
-less_is Equal e = absurd (true≢false (sym e))
-less_is Greater e = absurd (true≢false (sym e))
 
 module _ (k : List ℕ) (d : Data) where
   all_at : (p : List ℕ → Bool) (o : Ordering) (l : List ℕ) (e : Data) (ms : Members) → list_all p (names (member l e ms)) ≡ true → p k ≡ true → list_all p (names (put k d ms)) ≡ true

@@ -14,10 +14,11 @@ use Rattle.mk_plan.specs.declared.Entry.{Entry}
 use Rattle.mk_plan.specs.declared.Message.{Message}
 use Rattle.mk_plan.specs.Plans.{IsValidPlan, sim_count}
 use Rattle.mk_base.specs.Proper.{is_proper}
-use Rattle.mk_message.specs.Written.{is_in_range, is_readable, message_tree}
+use Rattle.mk_message.specs.Written.{is_readable, message_tree}
 use Rattle.mk_record_read.specs.Entries.{RecordEntry, StepOf, MessageOf, entries_of}
 use Rattle.mk_record_read.specs.Lines.{step_fits}
 use Rattle.mk_record_read.specs.declared.saved.Asked.{Asked}
+use Rattle.mk_plan.specs.Messages.{is_message_in_range}
 
 -- the steps among these entries of a record, in order, each with the number of messages before it,
 -- n of which came earlier
@@ -37,7 +38,7 @@ steps_of J = steps_after 0 (entries_of J)
 
 -- a message that a payload may have, and that nests so that the list around it may stand in a line
 abbrev pub is_sayable : Message → Bool
-is_sayable m = is_readable m && is_in_range m && is_proper (message_tree m)
+is_sayable m = is_readable m && is_message_in_range m && is_proper (message_tree m)
     && nat_le (nesting (message_tree m)) 126
 
 -- a simulator of the plan, and a step within its limits or a message that may stand in a line

@@ -14,6 +14,8 @@ use Rattle.mk_message.proofs.Ranges.{fits_in}
 use Rattle.mk_record_read.specs.Fields.{limited, misformed, is_below}
 use Rattle.mk_record_read.specs.Lines.{arrival_in}
 use Rattle.mk_record_read.specs.Steps.{IsKnown}
+use Rattle.mk_base.proofs.Items.{some_is}
+use Rattle.mk_record_read.specs.declared.saved.Arrival as saved
 
 -- what is tested is there
 found-ok : {X Y : Type 0} (n : ℕ) (o : Option X) (f : X → Result Y ℕ) (y : Y) → tested n o f ≡ Ok y → (x : X) × (o ≡ Some x) × (f x ≡ Ok y)
@@ -24,11 +26,8 @@ limited-ok : {Y : Type 0} (b : Bool) (x y : Y) → limited b x ≡ Ok y → (b �
 limited-ok true x y e = (refl, grind (arith, e))
 limited-ok false x y e = absurd (grind (arith, e))
 
-some-is : {X : Type 0} (x y : X) → Some x ≡ Some y → x ≡ y
-some-is x y e = grind (arith, e)
-
-ok-is : (r : Result Message ℕ) (m : Message) → result_ok r ≡ Some m → r ≡ Ok m
-ok-is (Ok n) m e = ap Ok (some-is n m e)
+pub ok-is : (r : Result Message ℕ) (m : Message) → result_ok r ≡ Some m → r ≡ Ok m
+ok-is (Ok n) m e = ap Ok (some_is n m e)
 ok-is (Err n) m e = absurd (grind (arith, e))
 
 second_of : (a b : Bool) → (a && (b && true)) ≡ true → b ≡ true
@@ -51,3 +50,7 @@ arrival-known P (sim ∷ message ∷ []) a e fits =
       sim = below-is (length P.sims) s.0 b.0;
       in_range = fits_in message m.0 (ok-is (message_in message) m.0 m.1) (second_of (is_in_range sim) (is_in_range message) fits);
     } in subst (IsKnown P) b.1 known
+
+-- a message that came, as a record keeps it
+abbrev pub kept_as : Arrival → saved.Arrival
+kept_as a = record { sim = record { 0 = a.sim }; message = a.message }

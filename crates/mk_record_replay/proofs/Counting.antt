@@ -19,6 +19,7 @@ use Rattle.mk_plan.specs.Journals.{View, OpenTurn, note, note_got, note_right, w
 use Rattle.mk_sched.specs.Cores.{CoreState}
 use Rattle.mk_sched.specs.Answers.{SomeOpen, id_at, open_id}
 use Rattle.mk_record_replay.specs.inner.Loops.{open_ids}
+use Rattle.mk_base.proofs.Items.{range_more}
 
 -- something is open at the place
 abbrev is_open : Place → Bool
@@ -94,10 +95,6 @@ id_of_turn core i = id_where_open ((view core.plan core.entries).open_at i) (aft
 -- the ids of all simulators count what is open
 pub all_ids : (core : CoreState) → open_ids core (sim_count core.plan) ≡ open_count core.plan (view core.plan core.entries)
 all_ids core = ap length (filter_same (λ i. is_some (open_id core i)) (λ i. is_some ((view core.plan core.entries).open_at i)) (range_with_len 0 (sim_count core.plan)) (id_of_turn core))
-
-pub range_more : (a n : ℕ) → range_with_len a (suc n) ≡ range_with_len a n ++ (a + n) ∷ []
-range_more a zero = ap (λ k. k ∷ []) (omega arith)
-range_more a (suc n) = ap (λ l. a ∷ l) (range_more (a + 1) n ∙ ap (λ k. range_with_len (a + 1) n ++ k ∷ []) (omega arith))
 
 pub ids_more : (core : CoreState) (n m : ℕ) → m ≡ n + 1 → open_ids core m ≡ open_ids core n + (if is_some (open_id core n) then 1 else 0)
 ids_more core n m e = ap (open_ids core) next ∙ ap (λ l. length (filter (λ i. is_some (open_id core i)) l)) (range_more 0 n) ∙ ap length (filter_append (λ i. is_some (open_id core i)) (range_with_len 0 n) ((0 + n) ∷ []))

@@ -19,13 +19,11 @@ use Rattle.mk_sched.specs.Answers.{open_id}
 use Rattle.mk_record_replay.specs.Replays.{messages_from}
 use Rattle.mk_record_replay.specs.Orders.{Drawing, draw_step, number_after, candidates, all_left, has_left, after_draw, chosen, drawn, next_number, next_sim, IsInOrder, SameMessages}
 use Rattle.mk_record_replay.specs.inner.Rounds.{IsBetween, AreWaiting, next_among, may_be_next, is_some_left}
-use Rattle.mk_sched.proofs.Pushed.{last_or_before, not_empty}
+use Rattle.mk_sched.proofs.Pushed.{last_or_before}
 use Rattle.mk_record_replay.proofs.Pushing.{got_is}
-use Rattle.mk_record_replay.proofs.Counting.{id_of_turn, range_more}
-
-fold_push : {A B : Type 0} (f : B → A → B) (b : B) (xs : List A) (x : A) → fold f b (xs ++ x ∷ []) ≡ f (fold f b xs) x
-fold_push f b [] x = refl
-fold_push f b (y ∷ xs) x = fold_push f (f b y) xs x
+use Rattle.mk_record_replay.proofs.Counting.{id_of_turn}
+use Rattle.mk_base.proofs.Counts.{below_or_not, less_test, not_less_self}
+use Rattle.mk_base.proofs.Items.{fold_push, not_empty, range_more, filter_same}
 
 module _ (P : Plan) (A : List Arrival) where
   journal_drawn : (D : Drawing) (J : List Entry) → (fold (draw_step P A) D J).journal ≡ D.journal ++ J
@@ -77,28 +75,15 @@ module _ (P : Plan) (A : List Arrival) where
 
 -- ---- whose message is next, as the lists of messages say it
 
-filter_same_in : (p q : ℕ → Bool) (xs : List ℕ) → ((x : ℕ) → IsIn x xs → p x ≡ q x) → filter p xs ≡ filter q xs
-filter_same_in p q [] h = refl
-filter_same_in p q (x ∷ xs) h = ap (λ b. cond b (x ∷ filter p xs) (filter p xs)) (h x (inl refl)) ∙ ap (λ (l : List ℕ). cond (q x) (x ∷ l) l) (filter_same_in p q xs (λ y m. h y (inr m)))
-
-pub compared : (a b : ℕ) → (a < b) ⊎ (b ≤ a)
-compared a b = grind arith
-
-lt_test : (a b : ℕ) → a < b → nat_lt a b ≡ true
-lt_test a b h = grind arith
-
-not_lt : (a : ℕ) → nat_lt a a ≡ false
-not_lt a = grind arith
-
 some_not : (n : ℕ) → not (suc n == 0) ≡ true
 some_not n = elim (suc n == 0) as (λ b. (suc n == 0) ≡ b → not b ≡ true) [ true ↦ λ e. absurd (let z : suc n ≡ 0 = eqb-true (suc n) 0 e in omega (arith, z)) | false ↦ λ e. refl ] refl
 
 -- there is more where something was added
 more_left : (g l : List Message) → not (length l == 0) ≡ nat_lt (length g) (length (g ++ reverse l))
-more_left g [] = sym (ap (λ (m : List Message). nat_lt (length g) (length m)) (append_nil g) ∙ not_lt (length g))
+more_left g [] = sym (ap (λ (m : List Message). nat_lt (length g) (length m)) (append_nil g) ∙ not_less_self (length g))
 more_left g (m ∷ l) =
     let count : length (g ++ reverse (m ∷ l)) ≡ length g + suc (length l) = length-append g (reverse (m ∷ l)) ∙ ap (λ n. length g + n) (length-reverse (m ∷ l)) in
-    some_not (length l) ∙ sym (lt_test (length g) (length (g ++ reverse (m ∷ l))) (omega (arith, count)))
+    some_not (length l) ∙ sym (less_test (length g) (length (g ++ reverse (m ∷ l))) (omega (arith, count)))
 
 module _ (A : List Arrival) (P : Plan) (J : List Entry) (waiting : List (List Message)) (lists : AreWaiting (sim_count P) A (arrivals J) waiting) where
   left_is : (i : ℕ) → i < sim_count P → is_some_left (slice_get waiting i) ≡ has_left A J i
@@ -123,7 +108,7 @@ module _ (A : List Arrival) (P : Plan) (J : List Entry) (waiting : List (List Me
 
   -- where nobody has a message left, all were given
   pub none_left : all_left P A J ≡ [] → SameMessages A (arrivals J)
-  none_left none i = elim (compared i (sim_count P)) [ inl low ↦ none_within none i low | inr far ↦ lists.beyond i far ]
+  none_left none i = elim (below_or_not i (sim_count P)) [ inl low ↦ none_within none i low | inr far ↦ lists.beyond i far ]
 
 module _ (A : List Arrival) (N : ℕ) (core : CoreState) (waiting : List (List Message)) (x : ℕ) (between : IsBetween A N core waiting x) where
   abbrev J : List Entry
@@ -136,11 +121,11 @@ module _ (A : List Arrival) (N : ℕ) (core : CoreState) (waiting : List (List M
   range_is = ap (range_with_len 0) between.lists.all
 
   pub candidates_are : next_among false core waiting (length waiting) ≡ candidates P A J
-  candidates_are = ap (filter (may_be_next false core waiting)) range_is ∙ filter_same_in (may_be_next false core waiting) (λ i. is_some ((view P J).open_at i) && has_left A J i) (range_with_len 0 (sim_count P))
+  candidates_are = ap (filter (may_be_next false core waiting)) range_is ∙ filter_same (may_be_next false core waiting) (λ i. is_some ((view P J).open_at i) && has_left A J i) (range_with_len 0 (sim_count P))
       (λ i m. ap (λ b. b && is_some_left (slice_get waiting i)) (id_of_turn core i) ∙ ap (λ b. is_some ((view P J).open_at i) && b) (left_is A P J waiting between.lists i (let r = in_range i 0 (sim_count P) m in omega (arith, r.1))))
 
   pub all_are : next_among true core waiting (length waiting) ≡ all_left P A J
-  all_are = ap (filter (may_be_next true core waiting)) range_is ∙ filter_same_in (may_be_next true core waiting) (has_left A J) (range_with_len 0 (sim_count P))
+  all_are = ap (filter (may_be_next true core waiting)) range_is ∙ filter_same (may_be_next true core waiting) (has_left A J) (range_with_len 0 (sim_count P))
       (λ i m. left_is A P J waiting between.lists i (let r = in_range i 0 (sim_count P) m in omega (arith, r.1)))
 
   -- the simulator that the lists and the number say is the one that is next

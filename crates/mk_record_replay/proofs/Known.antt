@@ -3,18 +3,11 @@ use Rattle.std.proofs.Common.{◌≡◌, zero, suc, true, List, [], ◌∷◌, m
 use Rattle.mk_plan.specs.declared.Plan.{Plan}
 use Rattle.mk_plan.specs.declared.Message.{Message}
 use Rattle.mk_plan.specs.declared.Message.TheVariants.{Ask, Success, Failure}
-use Rattle.mk_message.specs.Written.{is_in_range}
 use Rattle.mk_record_read.specs.declared.saved.Arrival.{Arrival}
 use Rattle.mk_record_read.specs.Seen.{came}
 use Rattle.mk_record_read.specs.Steps.{IsKnown}
-use Rattle.mk_sched.specs.Cores.{is_message_in_range}
 use Rattle.mk_record_replay.specs.Runs.{CanArrive}
-
--- a message that may be written is one that a core takes
-same_range : (m : Message) → is_in_range m ≡ true → is_message_in_range m ≡ true
-same_range (Ask id name args named) h = h
-same_range (Success id content) h = h
-same_range (Failure id text) h = refl
+use Rattle.mk_plan.specs.Messages.{is_message_in_range}
 
 all_first : {X : Type 0} (Q : X → Type 0) (x : X) (xs : List X) → Q x → All Q xs → All Q (x ∷ xs)
 all_first Q x xs here more zero d h = here
@@ -25,4 +18,4 @@ pub messages_of_record : (P : Plan) (xs : List Arrival) → All (IsKnown P) (map
 messages_of_record P [] known = λ i d h. absurd (omega arith)
 messages_of_record P (x ∷ xs) known =
     let here = known 0 (came x) (omega arith) in
-    all_first (CanArrive P) x xs (here.sim, same_range x.message here.in_range) (messages_of_record P xs (λ i d h. known (suc i) d (omega arith)))
+    all_first (CanArrive P) x xs (here.sim, here.in_range) (messages_of_record P xs (λ i d h. known (suc i) d (omega arith)))

@@ -22,8 +22,9 @@ use Rattle.mk_record_replay.specs.declared.replaying.ReplayEnd.{ReplayEnd}
 use Rattle.mk_record_replay.specs.declared.replaying.ReplayEnd.TheVariants.{Done, Core, Short, Other}
 use Rattle.mk_record_replay.specs.Replays.{IsReplay, IsWhole, IsShort, IsFull, SomeUngiven, EndsBy, IsEndOf, end_with}
 use Rattle.mk_record_replay.proofs.Giving.{nobody_at_end}
+use Rattle.mk_base.proofs.Items.{some_is}
 
-some_of : {X : Type 0} (o : Option X) → IsSome o → (x : X) × (o ≡ Some x)
+pub some_of : {X : Type 0} (o : Option X) → IsSome o → (x : X) × (o ≡ Some x)
 some_of None h = absurd (true≢false (sym h))
 some_of (Some x) h = (x, refl)
 
@@ -80,9 +81,6 @@ core_is (Wrong s place cause) h = refl
 core_is (Failed s place) h = refl
 core_is (LoopLimit s time) h = refl
 core_is (TooLong n) h = absurd (true≢false (sym h))
-
-some_is : {X : Type 0} (x y : X) → Some x ≡ Some y → x ≡ y
-some_is x y e = cc
 
 pub one_fault : (P : Plan) (A : List Arrival) (J : List Entry) (f g : CoreFault) → IsLastFaulty P J f ⊎ IsFull P A J f → IsLastFaulty P J g ⊎ IsFull P A J g → f ≡ g
 one_fault P A J f g (inl l) (inl m) = some_is f g (sym (core_is f l.named) ∙ ap (option_map core_of) (sym l.fault ∙ m.fault) ∙ core_is g m.named)

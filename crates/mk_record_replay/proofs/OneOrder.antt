@@ -24,9 +24,10 @@ use Rattle.mk_record_replay.specs.Replays.{EndsBy, SomeUngiven, messages_from}
 use Rattle.mk_record_replay.specs.Orders.{IsReplayBy, IsReplayInOrder, SameMessages, next_sim}
 use Rattle.mk_sched.specs.Answers.{SomeReady}
 use Rattle.mk_record_read.specs.declared.saved.Asked.{Asked}
-use Rattle.mk_record_replay.proofs.Drawing.{compared}
 use Rattle.mk_record_replay.proofs.OneEnd.{at_end, one_end, one_record}
 use Rattle.mk_record_replay.proofs.Waiting.{messages_append, front_of, one_here}
+use Rattle.mk_base.proofs.Counts.{below_or_not}
+use Rattle.mk_base.proofs.Items.{same_behind, nothing_behind}
 
 -- ---- a journal before its message at a place
 
@@ -83,16 +84,9 @@ nothing_more P G (Got s m ∷ more) b orderly none = absurd (some_left none)
     some_left q = cc
 nothing_more P G (Sent s item ∷ more) b orderly none = absurd (nothing_sent IsReady IsAdvance P (view P G) (Sent s item) b.paid b.nobody refl (orderly_front IsReady IsAdvance P G (Sent s item ∷ more) orderly).1.0)
 
-cancel : {X : Type 0} (xs ys zs : List X) → xs ++ ys ≡ xs ++ zs → ys ≡ zs
-cancel [] ys zs e = e
-cancel (x ∷ xs) ys zs e = cancel xs ys zs cc
-
-no_more : {X : Type 0} (xs ys : List X) → xs ≡ xs ++ ys → ys ≡ []
-no_more xs ys e = sym (cancel xs [] ys (append_nil xs ∙ e))
-
 longer_before : (P : Plan) (G K : List Entry) → IsBefore P G → IsBefore P K → arrivals G ≡ arrivals K → BeginsWith K G → G ≡ K
 longer_before P G K b c same longer =
-    let none : arrivals longer.0 ≡ [] = no_more (arrivals G) (arrivals longer.0) (same ∙ ap arrivals longer.1 ∙ filter_map_append arrival_of G longer.0) in
+    let none : arrivals longer.0 ≡ [] = nothing_behind (arrivals G) (arrivals longer.0) (same ∙ ap arrivals longer.1 ∙ filter_map_append arrival_of G longer.0) in
     let empty = nothing_more P G longer.0 b (subst (λ (l : List Entry). IsOrderlySoFar IsReady IsAdvance P l) longer.1 c.eager.0.0) none in
     sym (longer.1 ∙ ap (λ (l : List Entry). G ++ l) empty ∙ append_nil G)
 
@@ -130,7 +124,7 @@ module _ (P : Plan) (A : List Arrival) (N : ℕ) where
         let n' = message_next K f q H t.sim t.message t.more t.is in
         let both : messages_from (arrivals G) s.sim.0 ++ (s.message ∷ m.0) ≡ messages_from (arrivals G) s.sim.0 ++ (t.message ∷ n'.0) =
         sym m.1 ∙ ap (messages_from A) sims ∙ n'.1 ∙ ap (λ (i : ℕ). messages_from (arrivals H) i ++ (t.message ∷ n'.0)) (sym sims) ∙ ap (λ (l : List Entry). messages_from (arrivals l) s.sim.0 ++ (t.message ∷ n'.0)) (sym one) in
-        let messages : s.message ≡ t.message = first_same (cancel (messages_from (arrivals G) s.sim.0) (s.message ∷ m.0) (t.message ∷ n'.0) both) in
+        let messages : s.message ≡ t.message = first_same (same_behind (messages_from (arrivals G) s.sim.0) (s.message ∷ m.0) (t.message ∷ n'.0) both) in
         s.next ∙ ap (λ (l : List Arrival). l ++ record { sim = s.sim.0; message = s.message } ∷ []) same
         ∙ ap (λ (a : Arrival). take n (arrivals K) ++ a ∷ []) (λ i. record { sim = sims i; message = messages i }) ∙ sym t.next
       where
@@ -142,7 +136,7 @@ module _ (P : Plan) (A : List Arrival) (N : ℕ) where
     common (suc n) a b = at_place n (common n (omega (arith, a)) (omega (arith, b))) (omega (arith, a)) (omega (arith, b))
 
     comparable : BeginsWith (arrivals K) (arrivals J) ⊎ BeginsWith (arrivals J) (arrivals K)
-    comparable = elim (compared (length (arrivals J)) (length (arrivals K))) [
+    comparable = elim (below_or_not (length (arrivals J)) (length (arrivals K))) [
       | inl low ↦ inl (drop (length (arrivals J)) (arrivals K), shorter (arrivals J) (arrivals K) (common (length (arrivals J)) (omega arith) (omega (arith, low))))
       | inr high ↦ inr (drop (length (arrivals K)) (arrivals J), shorter (arrivals K) (arrivals J) (sym (common (length (arrivals K)) high (omega arith))))
     ]
@@ -169,7 +163,7 @@ module _ (P : Plan) (A : List Arrival) (N : ℕ) where
           (orderly_front IsReady IsAdvance P J (Sent s item ∷ rest) (subst (λ (l : List Entry). IsOrderlySoFar IsReady IsAdvance P (J ++ l)) same orderly)).1.0)
       on_quiet (Got s m ∷ rest) same all paid nobody =
           let there = message_next K f q J s m rest (is ∙ ap (λ (l : List Entry). J ++ l) same) in
-          let none : m ∷ there.0 ≡ [] = no_more (messages_from (arrivals J) s.0) (m ∷ there.0) (ap (λ (l : List Arrival). messages_from l s.0) all ∙ r.same s.0 ∙ there.1) in
+          let none : m ∷ there.0 ≡ [] = nothing_behind (messages_from (arrivals J) s.0) (m ∷ there.0) (ap (λ (l : List Arrival). messages_from l s.0) all ∙ r.same s.0 ∙ there.1) in
           absurd (not_none none)
         where
           not_none : {x : Message} {xs : List Message} → x ∷ xs ≡ [] → ⊥
@@ -196,7 +190,7 @@ module _ (P : Plan) (A : List Arrival) (N : ℕ) where
         let there : messages_from B a.sim ≡ messages_from (arrivals J) a.sim ++ (a.message ∷ messages_from rest a.sim) =
         ap (λ (l : List Arrival). messages_from l a.sim) is ∙ messages_append (arrivals J) (a ∷ rest) a.sim
         ∙ ap (λ (l : List Message). messages_from (arrivals J) a.sim ++ l) (front_of a rest a.sim ∙ ap (λ (l : List Message). l ++ messages_from rest a.sim) (one_here a a.sim refl)) in
-        absurd (not_none (no_more (messages_from (arrivals J) a.sim) (a.message ∷ messages_from rest a.sim) (ap (λ (l : List Arrival). messages_from l a.sim) all ∙ also a.sim ∙ sym (same a.sim) ∙ there)))
+        absurd (not_none (nothing_behind (messages_from (arrivals J) a.sim) (a.message ∷ messages_from rest a.sim) (ap (λ (l : List Arrival). messages_from l a.sim) all ∙ also a.sim ∙ sym (same a.sim) ∙ there)))
       where
         not_none : {x : Message} {xs : List Message} → x ∷ xs ≡ [] → ⊥
         not_none h = cc

@@ -11,9 +11,10 @@ use Rattle.mk_plan.specs.declared.Entry.TheVariants.{Sent, Got}
 use Rattle.mk_plan.specs.Journals.{Arrival, arrival_of, arrivals, view, got}
 use Rattle.mk_order.proofs.Pushing.{view_push}
 use Rattle.mk_sched.specs.Answers.{SomeReady}
-use Rattle.mk_sched.proofs.Pushed.{fault_after_sent, not_empty, patient_got, patient_sent}
+use Rattle.mk_sched.proofs.Pushed.{fault_after_sent, patient_got, patient_sent}
 use Rattle.mk_record_replay.specs.Replays.{messages_from}
 use Rattle.mk_record_replay.specs.inner.Loops.{IsGiven, IsOnWay}
+use Rattle.mk_base.proofs.Items.{not_empty}
 
 pub arrivals_after_sent : (J : List Entry) (s : SimNo) (item : Item) → arrivals (J ++ Sent s item ∷ []) ≡ arrivals J
 arrivals_after_sent J s item = filter_map_append arrival_of J (Sent s item ∷ []) ∙ append_nil (arrivals J)

@@ -21,12 +21,13 @@ use Rattle.mk_record_replay.specs.inner.Rounds.{AreFit, AreWaiting, GivenMessage
 use Rattle.mk_record_replay.proofs.Giving.{stopped_before, ends_done, ends_short, with_rest}
 use Rattle.mk_record_replay.proofs.Pushing.{on_way_first}
 use Rattle.mk_record_replay.proofs.Waiting.{waiting_given}
-use Rattle.mk_record_replay.proofs.Drawing.{order_got, order_more, number_got, next_is, number_is, compared, none_left, chosen_none, chosen_waits, order_first}
+use Rattle.mk_record_replay.proofs.Drawing.{order_got, order_more, number_got, next_is, number_is, none_left, chosen_none, chosen_waits, order_first}
 use Rattle.mk_record_replay.proofs.WholeOrders.{rest, whole, whole_beyond}
+use Rattle.mk_base.proofs.Counts.{below_or_not}
 
 -- what came is a beginning of what each simulator said
 comes_of : (P : Plan) (A C : List Arrival) (lists : List (List Message)) → AreWaiting (sim_count P) A C lists → SameMessages A (C ++ rest (sim_count P) A C)
-comes_of P A C lists h i = elim (compared i (sim_count P)) [
+comes_of P A C lists h i = elim (below_or_not i (sim_count P)) [
   | inl low ↦ whole (sim_count P) A C (λ i low. let t = below_get lists i (subst (λ n. i < n) (sym h.all) low) in (reverse t.0, h.each i t.0 t.1)) i low
   | inr far ↦ whole_beyond (sim_count P) A C i far ∙ h.beyond i far
 ]

@@ -10,9 +10,9 @@ use Rattle.mk_plan.specs.declared.Message.{Message}
 use Rattle.mk_plan.specs.Journals.{Arrival}
 use Rattle.mk_record_read.specs.declared.saved.Arrival as saved
 use Rattle.mk_record_read.specs.Seen.{came}
-use Rattle.mk_sched.specs.Cores.{is_message_in_range}
 use Rattle.mk_record_replay.specs.Replays.{messages_from}
 use Rattle.mk_record_replay.specs.inner.Rounds.{AreWaiting, AreFit}
+use Rattle.mk_plan.specs.Messages.{is_message_in_range}
 
 -- the message of an arrival, if it is the simulator's
 abbrev pub one_of : Arrival → ℕ → List Message
@@ -147,9 +147,3 @@ module _ (n : ℕ) (all left less done : List saved.Arrival) (a : saved.Arrival)
     pub fits_put : AreFit n new
     fits_put = let t = below_get lists a.sim.0 (one_within h whole last fit) in
         subst (AreFit n) (sym (put t.0 t.1)) (fit_put n a.sim.0 a.message lists t.0 fit t.1 (one_fits h whole last).1)
-
--- a place that was read holds what was read
-pub there_is : {X : Type 0} (xs : List X) (i : ℕ) (x : X) → i < length xs → x ≡ get_or xs i x → slice_get xs i ≡ Some x
-there_is [] i x low is = absurd (omega arith)
-there_is (y ∷ xs) zero x low is = ap Some (sym is)
-there_is (y ∷ xs) (suc i) x low is = there_is xs i x (omega arith) is

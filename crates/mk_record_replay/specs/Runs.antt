@@ -4,10 +4,11 @@ use Rattle.mk_plan.specs.declared.Plan.{Plan}
 use Rattle.mk_plan.specs.Plans.{sim_count}
 use Rattle.mk_plan.specs.Journals as journals
 use Rattle.mk_record_read.specs.declared.saved.Arrival.{Arrival}
-use Rattle.mk_sched.specs.Cores.{CoreState, is_message_in_range}
+use Rattle.mk_sched.specs.Cores.{CoreState}
 use Rattle.mk_record_replay.specs.declared.replaying.ReplayEnd.{ReplayEnd}
 use Rattle.mk_record_replay.specs.declared.replaying.ReplayEnd.TheVariants.{Done, Core, Short, Other}
 use Rattle.mk_record_replay.specs.Replays.{IsReplay, EndsBy}
+use Rattle.mk_plan.specs.Messages.{is_message_in_range}
 
 -- a core of this plan takes the message: it came from one of the plan's simulators, and its whole
 -- numbers are in range

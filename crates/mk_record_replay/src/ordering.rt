@@ -5,10 +5,10 @@ ghost use Rattle.mk_plan.specs.declared.Message.{Message};
 ghost use Rattle.mk_plan.specs.Plans.{sim_count};
 ghost use Rattle.mk_record_read.specs.Seen.{came};
 ghost use Rattle.mk_sched.specs.Answers.{open_id};
-ghost use Rattle.mk_sched.specs.Cores.{is_message_in_range};
 ghost use Rattle.mk_record_replay.specs.inner.Loops.{IsUnready};
 ghost use Rattle.mk_record_replay.specs.Orders.{after_draw, chosen, drawn, next_number};
 ghost use Rattle.mk_record_replay.specs.inner.Rounds.{AreFit, AreWaiting, CanGoOn, GivenMessage, GivenNext, HasEnded, HasMoved, IsBetween, IsPopped, RoundOf, next_among};
+ghost use Rattle.mk_plan.specs.Messages.{is_message_in_range};
 
 use crate::asking::{Standstill, ask_all};
 use crate::replaying::{ReplayEnd, open_count, take};

@@ -9,7 +9,7 @@ use Rattle.mk_plan.specs.declared.Entry.{Entry}
 use Rattle.mk_plan.specs.Journals.{sent, sent_to}
 use Rattle.mk_plan.specs.Report.{is_step, line_of, steps_in, last_line, last_stepped}
 use Rattle.mk_record_report.specs.inner.Summary.{later, step_in, step_to, steps_at}
-use Rattle.mk_record_report.proofs.Parting.{sent_push}
+use Rattle.mk_plan.proofs.Sending.{sent_push}
 
 last_push : (xs : List Item) (x : Item) → last_of (xs ++ x ∷ []) ≡ Some x
 last_push [] x = refl

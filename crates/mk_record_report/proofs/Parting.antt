@@ -12,9 +12,8 @@ use Rattle.mk_plan.specs.Journals.{sent, sent_to}
 use Rattle.mk_plan.specs.Report.{line_of, is_step, steps_in}
 use Rattle.mk_record_report.specs.declared.parts.Part.{Part}
 use Rattle.mk_record_report.specs.inner.Parts.{IsPart, AreParts, step_count}
-
-pub sent_push : (J : List Entry) (e : Entry) (i : ℕ) → sent (J ++ e ∷ []) i ≡ sent J i ++ sent (e ∷ []) i
-sent_push J e i = filter_map_append (sent_to i) J (e ∷ [])
+use Rattle.mk_base.proofs.Items.{get_at_place}
+use Rattle.mk_plan.proofs.Sending.{sent_here, sent_away, sent_push}
 
 -- an entry that sends nothing to the first simulators leaves their parts
 pub left_alone : (count : ℕ) (J : List Entry) (e : Entry) (parts : List Part) → ((i : ℕ) → i < count → sent (e ∷ []) i ≡ []) → AreParts count J parts → AreParts count (J ++ e ∷ []) parts
@@ -26,17 +25,8 @@ left_alone count J e parts nothing are = record {
 pub left_by_message : (count : ℕ) (J : List Entry) (s : SimNo) (m : Message) (parts : List Part) → AreParts count J parts → AreParts count (J ++ Got s m ∷ []) parts
 left_by_message count J s m parts are = left_alone count J (Got s m) parts (λ i low. refl) are
 
-pub other_sim : (s : SimNo) (item : Item) (i : ℕ) → (i ≡ s.0 → ⊥) → sent (Sent s item ∷ []) i ≡ []
-other_sim s item i apart = elim (s.0 == i) as (λ b. (s.0 == i) ≡ b → filter_map (sent_to i) (Sent s item ∷ []) ≡ []) [
-  | true ↦ λ e. absurd (apart (sym (eqb-true s.0 i e)))
-  | false ↦ λ e. rw e refl
-] refl
-
 pub left_by_stranger : (count : ℕ) (J : List Entry) (s : SimNo) (item : Item) (parts : List Part) → length parts ≤ s.0 → AreParts count J parts → AreParts count (J ++ Sent s item ∷ []) parts
-left_by_stranger count J s item parts past are = left_alone count J (Sent s item) parts (λ i low. other_sim s item i (λ e. absurd (omega (arith, past, low, are.all, e)))) are
-
-pub same_sim : (s : SimNo) (item : Item) → sent (Sent s item ∷ []) s.0 ≡ item ∷ []
-same_sim s item = let e : (s.0 == s.0) ≡ true = eq-eqb s.0 s.0 refl in rw e refl
+left_by_stranger count J s item parts past are = left_alone count J (Sent s item) parts (λ i low. sent_away s item i (λ e. absurd (omega (arith, past, low, are.all, e)))) are
 
 pub more_steps : (items : List Item) (item : Item) → length (steps_in (items ++ item ∷ [])) ≡ length (steps_in items) + step_count item
 more_steps items item = ap length (filter_append is_step items (item ∷ [])) ∙ length-append (steps_in items) (filter is_step (item ∷ [])) ∙ ap (λ n. length (steps_in items) + n) (elim (is_step item) as (λ b. length (cond b (item ∷ []) []) ≡ cond b 1 0) [ true ↦ refl | false ↦ refl ])
@@ -50,24 +40,18 @@ grown p q items item is lines steps = record {
 
 pub put_in : (count : ℕ) (J : List Entry) (s : SimNo) (item : Item) (parts : List Part) (p q : Part) → slice_get parts s.0 ≡ Some p → q.lines.items ≡ p.lines.items ++ line_of item → q.steps ≡ p.steps + step_count item → AreParts count J parts
     → AreParts count (J ++ Sent s item ∷ []) (slice_set parts s.0 q)
-put_in count J s item parts p q there lines steps are = record {
+put_in count J s item parts p q get_at_place lines steps are = record {
   all = length_set parts s.0 q ∙ are.all;
   each = λ i r at. elim (cases_eq i s.0) [
     | inl e ↦
-        let mine : r ≡ q = some_same (sym at ∙ ap (λ n. slice_get (slice_set parts s.0 q) n) e ∙ set_here parts s.0 q p there) in
-        let longer : IsPart q (sent (J ++ Sent s item ∷ []) s.0) = subst (IsPart q) (sym (sent_push J (Sent s item) s.0 ∙ ap (λ l. sent J s.0 ++ l) (same_sim s item))) (grown p q (sent J s.0) item (are.each s.0 p there) lines steps) in
+        let mine : r ≡ q = some_same (sym at ∙ ap (λ n. slice_get (slice_set parts s.0 q) n) e ∙ set_here parts s.0 q p get_at_place) in
+        let longer : IsPart q (sent (J ++ Sent s item ∷ []) s.0) = subst (IsPart q) (sym (sent_push J (Sent s item) s.0 ∙ ap (λ l. sent J s.0 ++ l) (sent_here s item))) (grown p q (sent J s.0) item (are.each s.0 p get_at_place) lines steps) in
         subst (λ (n : ℕ). IsPart r (sent (J ++ Sent s item ∷ []) n)) (sym e) (subst (λ (t : Part). IsPart t (sent (J ++ Sent s item ∷ []) s.0)) (sym mine) longer)
     | inr n ↦
         let same : slice_get parts i ≡ Some r = sym (set_else parts s.0 i q n) ∙ at in
-        subst (IsPart r) (sym (sent_push J (Sent s item) i ∙ ap (λ l. sent J i ++ l) (other_sim s item i n) ∙ append_nil (sent J i))) (are.each i r same)
+        subst (IsPart r) (sym (sent_push J (Sent s item) i ∙ ap (λ l. sent J i ++ l) (sent_away s item i n) ∙ append_nil (sent J i))) (are.each i r same)
   ];
 }
-
--- a place that was read holds what was read
-pub there : {X : Type 0} (parts : List X) (i : ℕ) (p : X) → i < length parts → p ≡ get_or parts i p → slice_get parts i ≡ Some p
-there [] i p low is = absurd (omega arith)
-there (q ∷ parts) zero p low is = ap Some (sym is)
-there (q ∷ parts) (suc i) p low is = there parts i p (omega arith) is
 
 pub few_steps : (J : List Entry) (i : ℕ) → length (steps_in (sent J i)) ≤ length J
 few_steps [] i = omega arith

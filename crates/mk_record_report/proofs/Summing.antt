@@ -13,14 +13,12 @@ use Rattle.mk_plan.specs.Report.{summary, steps_in, values_sent, counts, last_li
 use Rattle.mk_record_report.specs.declared.tallies.Tally.{Tally}
 use Rattle.mk_record_report.specs.inner.Summary.{IsTally, steps_at}
 use Rattle.mk_record_report.proofs.Lasts.{last_stepped_push}
-use Rattle.mk_record_report.proofs.Texts.{all_taken, one_more, sum_last}
+use Rattle.mk_record_report.proofs.Texts.{one_more, sum_last, stepped_at}
+use Rattle.mk_base.proofs.Items.{take_whole}
 
 -- a simulator's line, the number of its Steps, that of its input values, and its items
 abbrev pub counts_at : List Entry → ℕ × PlanSim → List ℕ
 counts_at J s = s.1.id ++ counts (length (steps_in (sent J s.0))) (values_sent (sent J s.0))
-
-abbrev pub stepped_at : List Entry → ℕ × PlanSim → ℕ
-stepped_at J s = length (steps_in (sent J s.0))
 
 abbrev pub valued_at : List Entry → ℕ × PlanSim → ℕ
 valued_at J s = values_sent (sent J s.0)
@@ -66,7 +64,7 @@ pub summary_is : (P : Plan) (J : List Entry) (out totals new : List ℕ) (steps 
     → steps_at (sent J) last ≡ last_stepped (map (items_at J) (take k (enumerate_from 0 P.sims))) []
     → totals ≡ out ++ (codes "total" ++ counts steps values) → new ≡ totals ++ last_line (steps_at (sent J) last) → new ≡ summary P (sent J)
 summary_is P J out totals new steps values k last past text stepped valued lasts total end =
-    let all : take k (enumerate_from 0 P.sims) ≡ enumerate_from 0 P.sims = all_taken (enumerate_from 0 P.sims) k (subst (λ n. n ≤ k) (sym (length-enumerate_from 0 P.sims)) past) in
+    let all : take k (enumerate_from 0 P.sims) ≡ enumerate_from 0 P.sims = take_whole (enumerate_from 0 P.sims) k (subst (λ n. n ≤ k) (sym (length-enumerate_from 0 P.sims)) past) in
     let all_steps : steps ≡ sum (map (stepped_at J) (enumerate_from 0 P.sims)) = stepped ∙ ap (λ l. sum (map (stepped_at J) l)) all in
     let all_valued : values ≡ sum (map (valued_at J) (enumerate_from 0 P.sims)) = valued ∙ ap (λ l. sum (map (valued_at J) l)) all in
     let whole : List ℕ = flat_map (counts_at J) (enumerate_from 0 P.sims) in

@@ -14,7 +14,8 @@ use Rattle.mk_plan.specs.Report.{steps_in, inputs_of, values_sent}
 use Rattle.mk_record_report.specs.declared.tallies.Tally.{Tally}
 use Rattle.mk_record_report.specs.inner.Parts.{step_count}
 use Rattle.mk_record_report.specs.inner.Summary.{IsTally, AreTallies, all_values, value_count}
-use Rattle.mk_record_report.proofs.Parting.{sent_push, other_sim, same_sim, more_steps, few_steps}
+use Rattle.mk_record_report.proofs.Parting.{more_steps, few_steps}
+use Rattle.mk_plan.proofs.Sending.{sent_here, sent_away, sent_push}
 
 -- an entry that sends nothing to the first simulators leaves their tallies
 left_alone : (count : ℕ) (J : List Entry) (e : Entry) (tallies : List Tally) → ((i : ℕ) → i < count → sent (e ∷ []) i ≡ []) → AreTallies count J tallies → AreTallies count (J ++ e ∷ []) tallies
@@ -27,7 +28,7 @@ pub untold_by_message : (count : ℕ) (J : List Entry) (s : SimNo) (m : Message)
 untold_by_message count J s m tallies are = left_alone count J (Got s m) tallies (λ i low. refl) are
 
 pub untold_by_stranger : (count : ℕ) (J : List Entry) (s : SimNo) (item : Item) (tallies : List Tally) → length tallies ≤ s.0 → AreTallies count J tallies → AreTallies count (J ++ Sent s item ∷ []) tallies
-untold_by_stranger count J s item tallies past are = left_alone count J (Sent s item) tallies (λ i low. other_sim s item i (λ e. absurd (omega (arith, past, low, are.all, e)))) are
+untold_by_stranger count J s item tallies past are = left_alone count J (Sent s item) tallies (λ i low. sent_away s item i (λ e. absurd (omega (arith, past, low, are.all, e)))) are
 
 one_more : (item : Item) → length (flat_map inputs_of (item ∷ [])) ≡ value_count item
 one_more (Step at ins advance) = ap length (append_nil ins)
@@ -52,11 +53,11 @@ told_in count J s item tallies t u there steps values are = record {
   each = λ i r at. elim (cases_eq i s.0) [
     | inl e ↦
         let mine : r ≡ u = some_same (sym at ∙ ap (λ n. slice_get (slice_set tallies s.0 u) n) e ∙ set_here tallies s.0 u t there) in
-        let longer : IsTally u (sent (J ++ Sent s item ∷ []) s.0) = subst (IsTally u) (sym (sent_push J (Sent s item) s.0 ∙ ap (λ l. sent J s.0 ++ l) (same_sim s item))) (grown t u (sent J s.0) item (are.each s.0 t there) steps values) in
+        let longer : IsTally u (sent (J ++ Sent s item ∷ []) s.0) = subst (IsTally u) (sym (sent_push J (Sent s item) s.0 ∙ ap (λ l. sent J s.0 ++ l) (sent_here s item))) (grown t u (sent J s.0) item (are.each s.0 t there) steps values) in
         subst (λ (n : ℕ). IsTally r (sent (J ++ Sent s item ∷ []) n)) (sym e) (subst (λ (v : Tally). IsTally v (sent (J ++ Sent s item ∷ []) s.0)) (sym mine) longer)
     | inr n ↦
         let same : slice_get tallies i ≡ Some r = sym (set_else tallies s.0 i u n) ∙ at in
-        subst (IsTally r) (sym (sent_push J (Sent s item) i ∙ ap (λ l. sent J i ++ l) (other_sim s item i n) ∙ append_nil (sent J i))) (are.each i r same)
+        subst (IsTally r) (sym (sent_push J (Sent s item) i ∙ ap (λ l. sent J i ++ l) (sent_away s item i n) ∙ append_nil (sent J i))) (are.each i r same)
   ];
 }
 

@@ -6,6 +6,7 @@ use Rattle.std.proofs.lemmas.List.{take_more, take_all}
 use Rattle.mk_base.specs.Texts.{list_text}
 use Rattle.mk_base.proofs.Lists.{map_append}
 use Rattle.mk_record_write.specs.inner.Commas.{comma_before}
+use Rattle.mk_base.proofs.Items.{length_map}
 
 -- one more text behind others
 joined_more : (x y : List ℕ) (xs : List (List ℕ)) → join_with_byte 44 (x ∷ xs ++ y ∷ []) ≡ join_with_byte 44 (x ∷ xs) ++ (44 ∷ y)
@@ -21,10 +22,6 @@ length_taken zero xs h = refl
 length_taken (suc k) [] h = absurd (omega arith)
 length_taken (suc k) (x ∷ xs) h = ap suc (length_taken k xs (omega (arith, h)))
 
-map_length : {X Y : Type 0} (f : X → Y) (xs : List X) → length (map f xs) ≡ length xs
-map_length f [] = refl
-map_length f (x ∷ xs) = ap suc (map_length f xs)
-
 module _ {X : Type 0} (f : X → List ℕ) (base : List ℕ) (xs : List X) (k : ℕ) where
   -- the text of the first items
   abbrev so_far : ℕ → List ℕ
@@ -35,7 +32,7 @@ module _ {X : Type 0} (f : X → List ℕ) (base : List ℕ) (xs : List X) (k : 
   one_joined d out between new low before comma item =
       let x : X = get_or xs k d in
       let shown : List ℕ = join_with_byte 44 (map f (take k xs)) in
-      let count : length (map f (take k xs)) ≡ k = map_length f (take k xs) ∙ length_taken k xs low in
+      let count : length (map f (take k xs)) ≡ k = length_map f (take k xs) ∙ length_taken k xs low in
       let texts : map f (take (k + 1) xs) ≡ map f (take k xs) ++ f x ∷ [] = ap (map f) (take_more xs k d low) ∙ map_append f (take k xs) (x ∷ []) in
       let joined : join_with_byte 44 (map f (take (k + 1) xs)) ≡ (shown ++ comma_before k) ++ f x =
       ap (join_with_byte 44) texts ∙ joined_push (map f (take k xs)) (f x) ∙ ap (λ n. (shown ++ comma_before n) ++ f x) count in

@@ -2,12 +2,12 @@
 ghost use Rattle.std.specs.Prelude.{◌≡◌, ◌++◌, ◌∷◌, [], true, length, flat_map, OnOk, if◌then◌else◌};
 ghost use Rattle.std.specs.List.{join_with_byte, list_all};
 ghost use Rattle.std.specs.Fmt.{decimal, signed_decimal};
-ghost use Rattle.mk_message.specs.Written.{is_in_range};
 ghost use Rattle.mk_record_read.specs.Entries.{entries_of};
 ghost use Rattle.mk_record_read.specs.Texts.{ask_line, entry_line, got_line};
 ghost use Rattle.mk_plan.specs.Report.{is_step};
 ghost use Rattle.mk_record_write.specs.Writable.{is_writable};
 ghost use Rattle.mk_record_write.specs.inner.Writable.{is_line, item_line, line_in};
+ghost use Rattle.mk_plan.specs.Messages.{is_message_in_range};
 
 use mk_base::{Mem, SimNo, Tier, put, put_signed, put_unsigned};
 use mk_message::write;
@@ -77,7 +77,7 @@ fn put_tier(out: &mut Vec<u8>, at: &Tier) -> Result<(), Mem>
 }
 
 fn put_got(alloc: Global, out: &mut Vec<u8>, sim: &SimNo, message: &Message) -> Result<(), Mem>
-    requires { is_in_range message.now ≡ true }
+    requires { is_message_in_range message.now ≡ true }
     ensures { OnOk result (out.new.items ≡ out.old.items
         ++ got_line (record { sim = sim.now.0; message = message.now })) }
 {

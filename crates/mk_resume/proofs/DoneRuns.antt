@@ -39,22 +39,17 @@ use Rattle.mk_resume_links.specs.inner.Touching.{RepeatsByKind}
 use Rattle.mk_resume_loop.specs.declared.ending.ResumeEnd.TheVariants as ends
 use Rattle.mk_resume.specs.Resumed.{IsResumed}
 use Rattle.mk_resume.specs.Laws.{DoneResumedRunsAreRuns}
+use Rattle.mk_base.proofs.Counts.{same_self}
+use Rattle.mk_base.proofs.Items.{at_length}
 
 -- ---- a message in a journal
 
-same_is : (a : ℕ) → (a == a) ≡ true
-same_is a = eq-eqb a a refl
-
 -- up to a message of the simulator, from where it stands
 pub up_to_there : (s : SimNo) (m : Message) (H more : List Entry) → up_to s.0 (length (got H s.0)) (H ++ Got s m ∷ more) ≡ H
-up_to_there s m H more = up_to_behind s.0 (length (got H s.0)) 0 H (Got s m ∷ more) (omega arith) ∙ ap (λ (K : List Entry). H ++ K) (up_to_head s.0 s m more 0 true (same_is s.0)) ∙ append_nil H
+up_to_there s m H more = up_to_behind s.0 (length (got H s.0)) 0 H (Got s m ∷ more) (omega arith) ∙ ap (λ (K : List Entry). H ++ K) (up_to_head s.0 s m more 0 true (same_self s.0)) ∙ append_nil H
 
 pub got_there : (s : SimNo) (m : Message) (H more : List Entry) → got (H ++ Got s m ∷ more) s.0 ≡ got H s.0 ++ m ∷ got more s.0
-got_there s m H more = filter_map_append (got_from s.0) H (Got s m ∷ more) ∙ ap (λ (b : Bool). got H s.0 ++ cons_option (if b then Some m else None) (got more s.0)) (same_is s.0)
-
-pub at_length : {X : Type 0} (xs ys : List X) (x : X) → slice_get (xs ++ x ∷ ys) (length xs) ≡ Some x
-at_length [] ys x = refl
-at_length (z ∷ xs) ys x = at_length xs ys x
+got_there s m H more = filter_map_append (got_from s.0) H (Got s m ∷ more) ∙ ap (λ (b : Bool). got H s.0 ++ cons_option (if b then Some m else None) (got more s.0)) (same_self s.0)
 
 -- a view with this open turn everywhere
 abbrev with_turn : View → Option OpenTurn → View

@@ -64,7 +64,7 @@ one_part a b Asyncs Entities x y = absurd (y.1 x.0.3)
 one_part a b Asyncs Conns x y = absurd (y.1 x.0.4)
 one_part a b Asyncs Asyncs x y = refl
 
-none_other : (a b : Plan) (q : Part) → IsFirstPart a b None → IsFirstPart a b (Some q) → ⊥
+pub none_other : (a b : Plan) (q : Part) → IsFirstPart a b None → IsFirstPart a b (Some q) → ⊥
 none_other a b Bounds all y = y.1 all.0.0
 none_other a b Sims all y = y.1 all.0.1
 none_other a b Models all y = y.1 all.0.2

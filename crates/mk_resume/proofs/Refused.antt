@@ -29,11 +29,11 @@ use Rattle.mk_run_links.proofs.OnEntries.{on_more, on_run}
 use Rattle.mk_run_crew.specs.Seen.{CrewSeen, crew_of}
 use Rattle.mk_run.proofs.Beginning.{run_begins}
 use Rattle.mk_run.proofs.ChannelsStopped.{stopped_by}
-use Rattle.mk_run.proofs.Turning.{risen_on}
 use Rattle.mk_resume_loop.specs.declared.ending.ResumeEnd.{ResumeEnd}
 use Rattle.mk_resume.specs.Resumed.{HasFaultySaved, HasRefused, ResumesAs}
 use Rattle.mk_resume.specs.inner.Going.{GoesOnAs, IsStarted, PlanResumesAs, RefusesAs}
 use Rattle.mk_resume.proofs.Beginning.{begins_fresh, setting_at}
+use Rattle.mk_session.proofs.Polling.{risen_after}
 
 module _ (A : Attempt) (C : CrewSeen) (P : Plan) (s : IsStarted A C P) (stops : List LogEntry) (some risen : Type 0) (rises : some → risen) (stop : AreStopped stops some (crew_of C)) (restless : IsRestless stops) (of_channels : AreOn (IsChannelLink C.channels) stops) where
   stopped : AreStopped stops risen (crew_of C)
@@ -74,7 +74,7 @@ refuses A P saved log f0 f1 None None end h r = inl (P, r, h)
 
 pub plan_refuses : (P : Plan) (saved : Saved) (C : CrewSeen) (stops : List LogEntry) (f0 f1 : ℕ) (Q : Option Plan) (J : Option Journal) (end : ResumeEnd) → RefusesAs P saved Q J end → AreStopped stops (HasRisen f0 f1) (crew_of C) → IsRestless stops → AreOn (IsChannelLink C.channels) stops
     → PlanResumesAs P saved C stops f0 f1 false Q J end
-plan_refuses P saved C stops f0 f1 Q J end r stop restless of_channels A before low s = refuses A P saved (A.log ++ stops) before f1 Q J end (has_refused A C P s stops (HasRisen f0 f1) (HasRisen before f1) (λ e. risen_on before f0 f1 low e) stop restless of_channels) r
+plan_refuses P saved C stops f0 f1 Q J end r stop restless of_channels A before low s = refuses A P saved (A.log ++ stops) before f1 Q J end (has_refused A C P s stops (HasRisen f0 f1) (HasRisen before f1) (λ e. risen_after before f0 f1 low e) stop restless of_channels) r
 
 -- and of one whose record was taken
 pub plan_goes_on : (P : Plan) (saved : Saved) (C : CrewSeen) (core : CoreState) (entries : List LogEntry) (f0 f2 : ℕ) (Q : Option Plan) (J : Option Journal) (end : ResumeEnd) → IsFirstOther P saved.plan None → IsOnward P (map came saved.arrivals) saved.asks core → All (IsKnown saved.plan) (map came saved.arrivals)

@@ -9,16 +9,12 @@ use Rattle.mk_plan.specs.Journals.{sent, sent_to, got, bare}
 use Rattle.mk_resume_walk.specs.Talks.{free_items, up_to}
 use Rattle.mk_resume_walk.proofs.UpTo.{IsNextAfter, next_after, up_to_all}
 use Rattle.mk_resume.specs.Laws.{ResumedRunsSayRight}
-
-begins_twice : {X : Type 0} (l a b : List X) → BeginsWith l a → BeginsWith a b → BeginsWith l b
-begins_twice l a b s t = (t.0 ++ s.0, s.1 ∙ ap (λ x. x ++ s.0) t.1 ∙ append_assoc b t.0 s.0)
-
-few_or_all : (n k : ℕ) → (n < k) ⊎ (k ≤ n)
-few_or_all n k = grind arith
+use Rattle.mk_base.proofs.Counts.{below_or_not}
+use Rattle.mk_base.proofs.Items.{begins_twice}
 
 -- what is free was sent
 pub free_begins : (J : List Entry) (i n : ℕ) → BeginsWith (sent J i) (free_items J i n)
-free_begins J i n = elim (few_or_all n (length (got J i))) [
+free_begins J i n = elim (below_or_not n (length (got J i))) [
   | inl more ↦
       let t : IsNextAfter i n J = next_after i n J more in
       (sent (Got t.sim t.message ∷ t.later) i, ap (λ (K : List Entry). sent K i) t.parts ∙ filter_map_append (sent_to i) (up_to i n J) (Got t.sim t.message ∷ t.later))

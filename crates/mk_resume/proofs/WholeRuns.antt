@@ -14,12 +14,13 @@ use Rattle.mk_run_links.specs.Entries.{AreOn}
 use Rattle.mk_run_links.specs.Places.{IsChannelLink}
 use Rattle.mk_run_crew.specs.Seen.{CrewSeen, crew_of}
 use Rattle.mk_run.specs.inner.Underway.{Setting, exchange_at}
-use Rattle.mk_run.proofs.Turning.{risen_on, risen_later}
 use Rattle.mk_resume_loop.specs.declared.ending.ResumeEnd.{ResumeEnd}
 use Rattle.mk_resume_loop.specs.inner.Turns.{IsStopping}
 use Rattle.mk_resume.specs.Resumed.{IsResumed}
 use Rattle.mk_resume.specs.inner.Going.{CatchesUpAs, IsFresh}
 use Rattle.mk_resume.proofs.Whole.{whole, whole_replies}
+use Rattle.mk_run_links.proofs.OnStops.{risen_later}
+use Rattle.mk_session.proofs.Polling.{risen_after}
 
 -- a resumed run from the record's messages to its stop
 pub resumed_whole : (core new : CoreState) (C D : CrewSeen) (entries stops : List LogEntry) (f0 f1 f2 : ℕ) (end : ResumeEnd) → f0 ≤ f1 → f1 ≤ f2 → CatchesUpAs entries (HasRisen f0 f1) core C new D end → AreStopped stops (HasRisen f1 f2) (crew_of D) → IsRestless stops → AreOn (IsChannelLink D.channels) stops
@@ -30,11 +31,11 @@ resumed_whole core new C D entries stops f0 f1 f2 end up later ended stopped res
     let plans : new.plan ≡ core.plan = stopping.1.suits.same ∙ sym u.resuming.suits.same in
     let there : IsRestored new.plan (map came saved.arrivals) core.entries = subst (λ (X : Plan). IsRestored X (map came saved.arrivals) core.entries) (sym plans) restored in
     let made = whole T new.plan core.entries new.entries stopping.0 (log ++ entries) stops (crew_of D) end before f2 (HasRisen f0 f1) (HasRisen f1 f2)
-    (λ r. risen_on before f0 f2 low (risen_later f0 f1 f2 later r)) (λ r. risen_on before f1 f2 (omega (arith, low, up)) r) stopping.1 stopped restless of_channels saved there same in
+    (λ r. risen_after before f0 f2 low (risen_later f0 f1 f2 later r)) (λ r. risen_after before f1 f2 (omega (arith, low, up)) r) stopping.1 stopped restless of_channels saved there same in
     let moved = subst (λ (l : List LogEntry). (r : IsResumed (exchange_at T l) new.plan saved new.entries before f2 end) × (r.replies ≡ T.replies)) (append_assoc log entries stops) (
       made,
       whole_replies T new.plan core.entries new.entries stopping.0 (log ++ entries) stops (crew_of D) end before f2 (HasRisen f0 f1) (HasRisen f1 f2)
-          (λ r. risen_on before f0 f2 low (risen_later f0 f1 f2 later r)) (λ r. risen_on before f1 f2 (omega (arith, low, up)) r) stopping.1 stopped restless of_channels saved there same,
+          (λ r. risen_after before f0 f2 low (risen_later f0 f1 f2 later r)) (λ r. risen_after before f1 f2 (omega (arith, low, up)) r) stopping.1 stopped restless of_channels saved there same,
     ) in
     (plans, moved.0, moved.1)
 

@@ -20,21 +20,19 @@ use Rattle.mk_run_laws.specs.Channels.{Channel}
 use Rattle.mk_run_laws.specs.Kinds.{Replies}
 use Rattle.mk_run_laws.specs.Crews.{CrewState, channel_at, kept_of, given_by, AreMoved, AreParkedAtRests, IsSentOnLink, IsSentWithin, IsUnheard}
 use Rattle.mk_run_laws.specs.Running.{SetupReplies, IsBegun}
-use Rattle.mk_run_laws.proofs.Stepping.{apart_is, same_is, same_or_not, got_here, got_away, linked_out}
+use Rattle.mk_run_laws.proofs.Stepping.{got_here, got_away, linked_out, given_here, given_away}
 use Rattle.mk_resume_walk.specs.Talks.{free_items}
 use Rattle.mk_resume_links.specs.Rests.{Counts, repeated}
 use Rattle.mk_resume_links.specs.inner.Catching.{IsCatching, IsCatchingWith, WasAwaited, awaited, one_more}
 use Rattle.mk_resume_links.specs.inner.Touching.{IsInTouch, IsResting, RepeatsByKind, RestsOver, RestsSoFar}
-use Rattle.mk_resume_links.proofs.Growing.{count_sent, free_before, given_away, given_here, last_there, repeated_away, repeated_got_away, repeated_got_here, repeated_here, repeated_sent}
+use Rattle.mk_resume_links.proofs.Growing.{count_sent, free_before, last_there, repeated_away, repeated_got_away, repeated_got_here, repeated_here, repeated_sent}
 use Rattle.mk_resume_links.proofs.Repeating.{kinds_longer, kinds_more, kinds_none}
 use Rattle.mk_resume_links.proofs.Touching.{begun, kept_within, queued_on_link, seen_as, taken_kept, taken_off}
 use Rattle.mk_resume_links.proofs.Waiting.{kept_over, link_over, none_yet, over_longer, over_so_far, ready_over, rests_waited}
 use Rattle.mk_run_laws.specs.Exchanges.{exchange}
+use Rattle.mk_base.proofs.Counts.{below_greatest, not_same, same_or_not, same_self}
 
 -- ---- counts, apart from what stands around them
-
-few_heard : (g s h : ℕ) → g ≡ max s h → h ≤ g
-few_heard g s h is = omega (arith, is)
 
 -- who is behind stays within what the record has
 still_behind : (g s h : ℕ) → g ≡ max s h → h < g → g ≡ max s (h + 1)
@@ -49,17 +47,17 @@ there_below xs n m is = (get_is xs n m is).0
 
 -- one message more of simulator s, and none of another
 pub more_here : (heard : Counts) (s : ℕ) → one_more heard s s ≡ heard s + 1
-more_here heard s = ap (λ (b : Bool). if b then heard s + 1 else heard s) (same_is s)
+more_here heard s = ap (λ (b : Bool). if b then heard s + 1 else heard s) (same_self s)
 
 pub more_away : (heard : Counts) (s i : ℕ) → (i ≡ s → ⊥) → one_more heard s i ≡ heard i
-more_away heard s i apart = ap (λ (b : Bool). if b then heard i + 1 else heard i) (apart_is i s apart)
+more_away heard s i apart = ap (λ (b : Bool). if b then heard i + 1 else heard i) (not_same i s apart)
 
 module _ (saved : Counts) (started : ℕ) (S : Scenario) (replies : SetupReplies) (reply : Replies) (P : Plan) where
   abbrev With : (ℕ → List Item) → (ℕ → List Message) → List Entry → Counts → List LogEntry → CrewState → Type 0
   With X A J heard log C = IsCatchingWith X A saved (exchange started S reply log) replies P J heard C
 
   few : (J : List Entry) (heard : Counts) → ((i : ℕ) → length (got J i) ≡ max (saved i) (heard i)) → (i : ℕ) → heard i ≤ length (got J i)
-  few J heard counts i = few_heard (length (got J i)) (saved i) (heard i) (counts i)
+  few J heard counts i = below_greatest (length (got J i)) (saved i) (heard i) (counts i)
 
   -- the handshake is over, and nothing was sent behind it
   pub catching_begun : (J : List Entry) (log : List LogEntry) (C : CrewState) → ((i : ℕ) → length (got J i) ≡ saved i) → IsBegun started S replies log C → With (λ i. []) (λ i. []) J (λ i. 0) log C

@@ -20,34 +20,22 @@ use Rattle.mk_run_laws.specs.Channels.{Channel}
 use Rattle.mk_run_laws.specs.Kinds.{Replies}
 use Rattle.mk_run_laws.specs.Crews.{CrewState, channel_at, kept_of, given_by, IsSentOnLink, IsSentWithin}
 use Rattle.mk_run_laws.specs.Running.{SetupReplies}
-use Rattle.mk_run_laws.proofs.Stepping.{same_or_not, got_here, linked_out}
+use Rattle.mk_run_laws.proofs.Stepping.{got_here, linked_out, given_here, given_away}
 use Rattle.mk_resume_walk.specs.Talks.{free_items}
 use Rattle.mk_resume_links.specs.Rests.{Counts, repeated}
 use Rattle.mk_resume_links.specs.inner.Catching.{IsCatching, IsCatchingWith, WasAwaited, awaited, one_more}
 use Rattle.mk_resume_links.specs.inner.Touching.{RestsOver}
 use Rattle.mk_resume_links.proofs.Catching.{catching_kept, catching_queued, catching_ready, catching_sent, more_away, more_here}
-use Rattle.mk_resume_links.proofs.Growing.{free_got_away, free_got_here, free_sent_away, free_sent_behind, free_sent_here, given_away, given_here}
+use Rattle.mk_resume_links.proofs.Growing.{free_got_away, free_got_here, free_sent_away, free_sent_behind, free_sent_here}
 use Rattle.mk_resume_links.proofs.Touching.{seen_as}
 use Rattle.mk_run_laws.specs.Exchanges.{exchange}
+use Rattle.mk_base.proofs.Counts.{equal_at_most, none_below, same_or_not}
+use Rattle.mk_base.proofs.Bools.{and_false}
 
 -- ---- tests of numbers
 
-below_none : (n k : ℕ) → k ≤ n → nat_lt n k ≡ false
-below_none n k few = go (nat_lt n k) refl
-  where
-    go : (b : Bool) → nat_lt n k ≡ b → b ≡ false
-    go true e = absurd (let low = ltb-true n k e in omega (arith, low, few))
-    go false e = refl
-
-and_false : (b : Bool) → (b && false) ≡ false
-and_false true = refl
-and_false false = refl
-
 long_push : (xs : List Item) (x : Item) (n : ℕ) → length xs ≡ n → n < length (xs ++ x ∷ [])
 long_push xs x n is = let e = length-append xs (x ∷ []) in omega (arith, e, is)
-
-no_more : (k n : ℕ) → k ≡ n → k ≤ n
-no_more k n is = omega (arith, is)
 
 one_behind : (k n m : ℕ) → m ≡ n + 1 → k ≡ n → k + 1 ≤ m
 one_behind k n m more is = omega (arith, more, is)
@@ -73,7 +61,7 @@ module _ (saved : Counts) (started : ℕ) (S : Scenario) (replies : SetupReplies
 
   -- nothing is, where all that is free was answered
   awaited_none : (J : List Entry) (heard : Counts) (i : ℕ) → length (free_items J i (heard i)) ≤ heard i → awaited S reply J heard i ≡ []
-  awaited_none J heard i few = ap (λ (b : Bool). if is_within S i && b then reply i (map bare (free_items J i (heard i))) ∷ [] else []) (below_none (heard i) (length (free_items J i (heard i))) few)
+  awaited_none J heard i few = ap (λ (b : Bool). if is_within S i && b then reply i (map bare (free_items J i (heard i))) ∷ [] else []) (none_below (heard i) (length (free_items J i (heard i))) few)
       ∙ ap (λ (b : Bool). if b then reply i (map bare (free_items J i (heard i))) ∷ [] else []) (and_false (is_within S i))
 
   -- the reply to the last item is, where that one wasn't
@@ -137,7 +125,7 @@ module _ (saved : Counts) (started : ℕ) (S : Scenario) (replies : SetupReplies
       catching_kept saved started S replies reply P (λ i. free_items J i (heard i)) (λ i. free_items K i (heard i)) (awaited S reply J heard) (awaited S reply K heard) K heard log C D s.0 m longer.0 longer.1 sent_so
       (λ i l linked. sym (free_sent_away J s item i (heard i) (λ q. true≢false (sym inside ∙ ap (is_within S) (sym q) ∙ linked_out started S i l linked))))
       (each (λ i. awaited S reply K heard i ≡ awaited S reply J heard i ++ given_by s.0 m i) s.0
-      (awaited_one K heard s.0 inside long ∙ sym (ap (λ (l : List Message). l ++ given_by s.0 m s.0) (awaited_none J heard s.0 (no_more (length (free_items J s.0 (heard s.0))) (heard s.0) answered)) ∙ given_here s.0 m))
+      (awaited_one K heard s.0 inside long ∙ sym (ap (λ (l : List Message). l ++ given_by s.0 m s.0) (awaited_none J heard s.0 (equal_at_most (length (free_items J s.0 (heard s.0))) (heard s.0) answered)) ∙ given_here s.0 m))
       (λ i apart. awaited_same K J heard heard i refl (free_sent_away J s item i (heard i) apart) ∙ sym (ap (λ (l : List Message). awaited S reply J heard i ++ l) (given_away s.0 m i apart) ∙ append_nil (awaited S reply J heard i))))
 
   -- ---- a message was sent again
@@ -177,7 +165,7 @@ module _ (saved : Counts) (started : ℕ) (S : Scenario) (replies : SetupReplies
       let L : List Entry = K ++ Sent s item ∷ [] in
       let next : Counts = one_more heard s.0 in
       let longer = catching_sent saved started S replies reply P (λ i. free_items J i (heard i)) (awaited S reply J heard) K next log C s item c over in
-      let all : length (got K s.0) ≤ next s.0 = subst (λ (k : ℕ). length (got K s.0) ≤ k) (sym (more_here heard s.0)) (no_more (length (got K s.0)) (heard s.0 + 1) (ap length (got_here J s m) ∙ length-append (got J s.0) (m ∷ []) ∙ ap (λ (k : ℕ). k + 1) (sym caught))) in
+      let all : length (got K s.0) ≤ next s.0 = subst (λ (k : ℕ). length (got K s.0) ≤ k) (sym (more_here heard s.0)) (equal_at_most (length (got K s.0)) (heard s.0 + 1) (ap length (got_here J s m) ∙ length-append (got J s.0) (m ∷ []) ∙ ap (λ (k : ℕ). k + 1) (sym caught))) in
       seen (λ i. free_items L i (next i)) (λ i. free_items L i (next i)) (awaited S reply J heard) (awaited S reply L next) L next log D
       (catching_queued saved started S replies reply P (λ i. free_items J i (heard i)) (λ i. free_items L i (next i)) (awaited S reply J heard) L next log C D s.0 item id l longer.0 linked sent_so right
       (free_sent_here K s item (next s.0) all ∙ ap (λ (xs : List Item). xs ++ item ∷ []) (sym (free_same J heard s m caught s.0)))
@@ -198,7 +186,7 @@ module _ (saved : Counts) (started : ℕ) (S : Scenario) (replies : SetupReplies
       seen (λ i. free_items J i (heard i)) (λ i. free_items K i (next i)) (λ i. kept_of i C.kept) (awaited S reply K next) K next log C c
       (λ i l linked. each (λ j. free_items J j (heard j) ≡ free_items K j (next j)) s (sym free_next) away i)
       (each (λ i. kept_of i C.kept ≡ awaited S reply K next i) s
-      (was.none ∙ sym (awaited_none K next s (no_more (length (free_items K s (next s))) (next s) (ap length free_next ∙ answered ∙ sym (more_here heard s)))))
+      (was.none ∙ sym (awaited_none K next s (equal_at_most (length (free_items K s (next s))) (next s) (ap length free_next ∙ answered ∙ sym (more_here heard s)))))
       (λ i apart. was.others i apart ∙ awaited_same J K heard next i (sym (more_away heard s i apart)) (away i apart)))
 
   -- one item follows, and its reply is kept

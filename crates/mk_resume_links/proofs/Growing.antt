@@ -9,10 +9,11 @@ use Rattle.mk_plan.specs.declared.Entry.{Entry}
 use Rattle.mk_plan.specs.declared.Entry.TheVariants.{Sent, Got}
 use Rattle.mk_plan.specs.Journals.{sent, got, got_from}
 use Rattle.mk_run_laws.specs.Crews.{given_by}
-use Rattle.mk_run_laws.proofs.Stepping.{apart_is, same_is, sent_here, sent_away, got_here, got_away, sent_got, got_given}
+use Rattle.mk_run_laws.proofs.Stepping.{sent_here, sent_away, got_here, got_away, sent_got, got_given, got_sent, given_here, given_away}
 use Rattle.mk_resume_walk.specs.Talks.{free_items}
 use Rattle.mk_resume_walk.proofs.UpTo.{free_all, free_front, up_to_behind, up_to_head}
 use Rattle.mk_resume_links.specs.Rests.{repeated}
+use Rattle.mk_base.proofs.Counts.{below_or_not, not_same, same_self}
 
 -- ---- lists
 
@@ -24,15 +25,7 @@ take_more xs n x is = ap (λ (k : ℕ). take k xs) (let e : n + 1 ≡ suc n = om
     go (y ∷ ys) zero is = ap (λ (z : Message). z ∷ []) (some_same is)
     go (y ∷ ys) (suc n) is = ap (λ (l : List Message). y ∷ l) (go ys n is)
 
-few_or_more : (n k : ℕ) → (n < k) ⊎ (k ≤ n)
-few_or_more n zero = inr (omega arith)
-few_or_more zero (suc k) = inl (omega arith)
-few_or_more (suc n) (suc k) = elim (few_or_more n k) [ inl low ↦ inl (omega (arith, low)) | inr high ↦ inr (omega (arith, high)) ]
-
 -- ---- an item more
-
-got_sent : (J : List Entry) (s : SimNo) (item : Item) (i : ℕ) → got (J ++ Sent s item ∷ []) i ≡ got J i
-got_sent J s item i = filter_map_append (got_from i) J (Sent s item ∷ []) ∙ append_nil (got J i)
 
 pub repeated_sent : (J : List Entry) (s : SimNo) (item : Item) (i n : ℕ) → repeated (J ++ Sent s item ∷ []) i n ≡ repeated J i n
 repeated_sent J s item i n = ap (take n) (got_sent J s item i)
@@ -49,22 +42,16 @@ pub free_sent_behind : (J : List Entry) (s : SimNo) (item : Item) (n : ℕ) → 
 free_sent_behind J s item n more = free_front J (Sent s item ∷ []) s.0 n more
 
 pub free_sent_away : (J : List Entry) (s : SimNo) (item : Item) (i n : ℕ) → (i ≡ s.0 → ⊥) → free_items (J ++ Sent s item ∷ []) i n ≡ free_items J i n
-free_sent_away J s item i n apart = elim (few_or_more n (length (got J i))) [
+free_sent_away J s item i n apart = elim (below_or_not n (length (got J i))) [
   | inl more ↦ free_front J (Sent s item ∷ []) i n more
   | inr few ↦ free_all (J ++ Sent s item ∷ []) i n (subst (λ (k : ℕ). k ≤ n) (sym (count_sent J s item i)) few) ∙ sent_away J s item i apart ∙ sym (free_all J i n few)
 ]
 
 -- ---- a message more
 
-pub given_here : (s : ℕ) (m : Message) → given_by s m s ≡ m ∷ []
-given_here s m = ap (λ (b : Bool). if b then m ∷ [] else []) (same_is s)
-
-pub given_away : (s : ℕ) (m : Message) (i : ℕ) → (i ≡ s → ⊥) → given_by s m i ≡ []
-given_away s m i n = ap (λ (b : Bool). if b then m ∷ [] else []) (apart_is s i (λ e. n (sym e)))
-
 -- nothing more is free to the others, nor to its simulator, which had caught up
 pub free_got_away : (J : List Entry) (s : SimNo) (m : Message) (i n : ℕ) → (i ≡ s.0 → ⊥) → free_items (J ++ Got s m ∷ []) i n ≡ free_items J i n
-free_got_away J s m i n apart = elim (few_or_more n (length (got J i))) [
+free_got_away J s m i n apart = elim (below_or_not n (length (got J i))) [
   | inl more ↦ free_front J (Got s m ∷ []) i n more
   | inr few ↦ free_all (J ++ Got s m ∷ []) i n (subst (λ (k : ℕ). k ≤ n) (sym (ap length (got_away J s m i apart))) few) ∙ sent_got J s m i ∙ sym (free_all J i n few)
 ]
@@ -102,5 +89,5 @@ last_there xs ys m n end is = ap (λ (l : List Message). slice_get l n) is ∙ a
 -- what was free before it is what was free by then
 pub free_before : (J : List Entry) (s : SimNo) (m : Message) (n : ℕ) → n ≡ length (got J s.0) → free_items (J ++ Got s m ∷ []) s.0 n ≡ free_items J s.0 n
 free_before J s m n caught =
-    ap (λ (K : List Entry). sent K s.0) (up_to_behind s.0 n 0 J (Got s m ∷ []) (omega (arith, caught)) ∙ ap (λ (K : List Entry). J ++ K) (up_to_head s.0 s m [] 0 true (same_is s.0)) ∙ append_nil J)
+    ap (λ (K : List Entry). sent K s.0) (up_to_behind s.0 n 0 J (Got s m ∷ []) (omega (arith, caught)) ∙ ap (λ (K : List Entry). J ++ K) (up_to_head s.0 s m [] 0 true (same_self s.0)) ∙ append_nil J)
     ∙ sym (free_all J s.0 n (omega (arith, caught)))

@@ -6,11 +6,11 @@ use Rattle.mk_plan.specs.declared.Message.{Message}
 use Rattle.mk_plan.specs.declared.Entry.{Entry}
 use Rattle.mk_plan.specs.Journals.{bare, got, got_from}
 use Rattle.mk_run_laws.specs.Kinds.{Replies}
-use Rattle.mk_run_laws.proofs.Stepping.{same_or_not}
 use Rattle.mk_resume_walk.specs.Talks.{free_items}
 use Rattle.mk_resume_walk.proofs.UpTo.{free_front}
 use Rattle.mk_resume_links.specs.Rests.{Counts}
 use Rattle.mk_resume_links.specs.inner.Touching.{RepeatsByKind}
+use Rattle.mk_base.proofs.Counts.{same_or_not}
 
 get_front : (xs ys : List Message) (n : ℕ) → n < length xs → slice_get (xs ++ ys) n ≡ slice_get xs n
 get_front [] ys n low = absurd (let g : n < 0 = low in omega (arith, g))

@@ -18,8 +18,9 @@ use Rattle.mk_run_laws.specs.Crews.{CrewState, channel_at, kept_from, kept_of, g
 use Rattle.mk_run_laws.specs.Running.{SetupReplies, IsInStep, IsBegun}
 use Rattle.mk_run_laws.specs.inner.Running.{HasChannel}
 use Rattle.mk_run_laws.proofs.Moving.{channel_moved, channel_queued, moved_there, moved_none}
-use Rattle.mk_run_laws.proofs.Stepping.{same_or_not, items_push, ids_push, text_same, linked_out}
+use Rattle.mk_run_laws.proofs.Stepping.{items_push, ids_push, text_same, linked_out}
 use Rattle.mk_resume_links.specs.inner.Touching.{IsInTouch}
+use Rattle.mk_base.proofs.Counts.{same_or_not}
 
 -- ---- ids
 

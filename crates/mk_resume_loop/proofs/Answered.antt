@@ -12,7 +12,6 @@ use Rattle.mk_outside.specs.declared.fleet.LogEntry.{LogEntry}
 use Rattle.mk_sched.specs.Cores.{CoreState, Stands}
 use Rattle.mk_sched.specs.Answers.{IsAnswered}
 use Rattle.mk_run_laws.specs.Crews.{IsHeard, kept_of}
-use Rattle.mk_run_laws.proofs.Stepping.{same_or_not}
 use Rattle.mk_run_local.specs.Laws.{RepliesAreKinds}
 use Rattle.mk_run_crew.specs.declared.halt.Halt.{Halt}
 use Rattle.mk_run_crew.specs.Calls.{SendsAs, ShowsUnsent}
@@ -40,6 +39,7 @@ use Rattle.mk_resume_loop.proofs.Hearing.{met_back, met_fits, met_low, met_no_ot
 use Rattle.mk_resume_loop.proofs.New.{few_then, free_here, free_others}
 use Rattle.mk_resume_loop.proofs.Turning.{answered_on, owed_last}
 use Rattle.mk_resume_loop.proofs.Unsent.{unsent_ends}
+use Rattle.mk_base.proofs.Counts.{same_or_not}
 
 module _ (T : Setting) (core new : CoreState) (first : List Entry) (heard : Counts) (log : List LogEntry) (s : SimNo) (m : Message) (C : CrewSeen) (h : IsMet T core.plan first core.entries heard log s.0 m (crew_of C) C.sims) (caught : heard s.0 ≡ length (got core.entries s.0))
     (a : IsAnswered core s m new) (stands : Stands new.plan new.entries) where

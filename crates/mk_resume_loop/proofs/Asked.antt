@@ -22,7 +22,7 @@ use Rattle.mk_run_laws.specs.Handshake.{setup_count, sim_link}
 use Rattle.mk_run_laws.specs.Channels.{Channel}
 use Rattle.mk_run_laws.specs.Crews.{channel_at}
 use Rattle.mk_run_laws.proofs.Saying.{link_there}
-use Rattle.mk_run_laws.proofs.Stepping.{same_or_not, sent_here}
+use Rattle.mk_run_laws.proofs.Stepping.{sent_here}
 use Rattle.mk_run_local.specs.Laws.{RepliesAreKinds}
 use Rattle.mk_run_crew.specs.Seen.{CrewSeen, crew_of, is_here}
 use Rattle.mk_run_crew.specs.Calls.{HasNext, SendsAs}
@@ -42,6 +42,7 @@ use Rattle.mk_resume_links.proofs.Closing.{asked_behind, asked_on_link, asked_wi
 use Rattle.mk_resume_loop.specs.inner.Underway.{IsResuming, saved_of}
 use Rattle.mk_run.proofs.ItemSent.{come_as, come_sent, kept_so, no_other_after, not_here_is_outside, only_sent}
 use Rattle.mk_run.proofs.SmallIds.{few_more, few_sent, small_next}
+use Rattle.mk_base.proofs.Counts.{same_or_not}
 
 -- ---- beginnings
 

@@ -14,7 +14,6 @@ use Rattle.mk_order.proofs.SameEnd.{done_is_quiet}
 use Rattle.mk_outside.specs.declared.fleet.LogEntry.{LogEntry}
 use Rattle.mk_sched.specs.Cores.{CoreState, Stands}
 use Rattle.mk_sched.specs.Answers.{SomeOpen, SomeReady, IsAsked, IsOver, AwaitsMessage}
-use Rattle.mk_run_laws.proofs.Stepping.{same_or_not}
 use Rattle.mk_run_local.specs.Laws.{RepliesAreKinds}
 use Rattle.mk_run_crew.specs.declared.halt.Halt.{Halt}
 use Rattle.mk_run_crew.specs.Calls.{ShowsUnsent}
@@ -40,6 +39,7 @@ use Rattle.mk_resume_loop.proofs.Asked.{asked_low, longer_begins, paid_by_sent}
 use Rattle.mk_resume_loop.proofs.Standing.{next_behind}
 use Rattle.mk_resume_loop.proofs.Turning.{asked_later, asked_on, ends_with_step}
 use Rattle.mk_resume_loop.proofs.Unsent.{unsent_ends}
+use Rattle.mk_base.proofs.Counts.{same_or_not}
 
 module _ (T : Setting) (old new : CoreState) (first : List Entry) (heard : Counts) (log : List LogEntry) (C : CrewSeen) (s : SimNo) (u : IsResuming T old.plan first old.entries heard log (crew_of C) C.sims) (stands : Stands new.plan new.entries) (a : IsAsked old s new) where
   abbrev J : List Entry

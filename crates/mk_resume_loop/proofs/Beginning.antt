@@ -17,13 +17,13 @@ use Rattle.mk_record_read.specs.Steps.{IsKnown}
 use Rattle.mk_record_restored.specs.Restored.{IsRestored}
 use Rattle.mk_run_crew.specs.Begun.{HasBegun}
 use Rattle.mk_run_crew.specs.Seen.{CrewSeen, crew_of}
-use Rattle.mk_run_laws.proofs.Stepping.{same_or_not}
 use Rattle.mk_run.specs.Ends.{AreInRange}
 use Rattle.mk_run.specs.inner.Underway.{IsUnderway, put, reply_in}
 use Rattle.mk_run.proofs.Beginning.{run_begins, setting_of}
 use Rattle.mk_resume_links.proofs.Catching.{catching_begun}
 use Rattle.mk_run.proofs.Putting.{put_away, put_here}
 use Rattle.mk_resume_loop.specs.inner.Underway.{IsResumingWith, course_of, saved_of}
+use Rattle.mk_base.proofs.Counts.{same_or_not}
 
 -- ---- what all members of a list are
 

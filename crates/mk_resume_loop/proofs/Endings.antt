@@ -26,7 +26,7 @@ use Rattle.mk_run_laws.specs.Channels.{Channel}
 use Rattle.mk_run_laws.specs.Crews.{CrewState, channel_at, kept_of, given_by, IsHeard, IsUnheard}
 use Rattle.mk_run_laws.specs.inner.Running.{HasChannel}
 use Rattle.mk_run_laws.proofs.Taking.{unfinished_none, long_none, none_first, garbled_none}
-use Rattle.mk_run_laws.proofs.Stepping.{linked_out}
+use Rattle.mk_run_laws.proofs.Stepping.{linked_out, given_here}
 use Rattle.mk_run_links.specs.declared.answers.LinkHalt.{LinkHalt}
 use Rattle.mk_run_links.specs.declared.answers.LinkHalt.TheVariants as link_halt
 use Rattle.mk_run_links.specs.Entries.{AreOn}
@@ -43,14 +43,14 @@ use Rattle.mk_run.proofs.Linked.{no_other_moved}
 use Rattle.mk_sched.proofs.Pushed.{patient_got}
 use Rattle.mk_run.proofs.Pushed.{range_got}
 use Rattle.mk_run.specs.Ends.{fault_named}
-use Rattle.mk_run.proofs.Endings.{last_is_in, limit_unnamed, none_named, queued_itself}
+use Rattle.mk_run.proofs.Endings.{limit_unnamed, none_named, queued_itself}
 use Rattle.mk_resume_walk.specs.Talks.{free_items}
 use Rattle.mk_resume_links.specs.Rests.{Counts, repeated}
 use Rattle.mk_resume_links.specs.Running.{RestsEnd}
 use Rattle.mk_resume_links.specs.inner.Catching.{IsCatching, IsCatchingWith, awaited, one_more}
 use Rattle.mk_resume_links.specs.inner.Touching.{IsInTouch}
 use Rattle.mk_resume_links.proofs.Catching.{apart_on_link, apart_within, catching_unheard}
-use Rattle.mk_resume_links.proofs.Growing.{given_here, repeated_away}
+use Rattle.mk_resume_links.proofs.Growing.{repeated_away}
 use Rattle.mk_resume_links.proofs.Touching.{seen_as}
 use Rattle.mk_resume_links.proofs.Waiting.{over_so_far, so_far_end}
 use Rattle.mk_resume_loop.specs.declared.ending.ResumeEnd.{ResumeEnd}
@@ -62,6 +62,7 @@ use Rattle.mk_resume_loop.proofs.Asked.{longer_begins}
 use Rattle.mk_resume_loop.proofs.Resting.{resting}
 use Rattle.mk_resume_loop.proofs.Hearing.{met_back, met_fits, met_no_other, met_log_right, log_right_on}
 use Rattle.mk_resume_loop.proofs.New.{quiet_catching}
+use Rattle.mk_run_crew.proofs.Halting.{last_in}
 
 early_of : (g s n : ℕ) → g ≡ max s n → n < g → n < s
 early_of g s n is low = omega (arith, is, low)
@@ -277,7 +278,7 @@ module _ (T : Setting) (first : List Entry) where
         let w = shown.0 in
         let t = given_now sim.0 w shown.1 (none_first w.held (unfinished_none w.held shown.2.0)) in
         let l_is : w.link ≡ t.0 = ap (λ (v : Channel). v.link) (sym t.2) ∙ t.1.channel.link in
-        (t.0, t.1, in_back (Ended t.0) log entries (subst (λ (l : LinkNo). IsIn (Ended l) entries) l_is (last_is_in (is_read w.link) entries (Ended w.link) shown.2.1)))
+        (t.0, t.1, in_back (Ended t.0) log entries (subst (λ (l : LinkNo). IsIn (Ended l) entries) l_is (last_in (is_read w.link) entries (Ended w.link) shown.2.1)))
     by_link (link_halt.Garbled sim test) cause shown =
         let w = shown.0 in
         let b = shown.2 in

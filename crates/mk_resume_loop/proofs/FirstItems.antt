@@ -14,12 +14,10 @@ use Rattle.mk_plan.specs.Sequential.{id_after}
 use Rattle.mk_outside.specs.declared.fleet.LogEntry.{LogEntry}
 use Rattle.mk_sched.specs.Cores.{CoreState}
 use Rattle.mk_run_laws.specs.Handshake.{is_within}
-use Rattle.mk_run_laws.proofs.Stepping.{same_or_not}
 use Rattle.mk_run_crew.specs.Seen.{CrewSeen, crew_of}
 use Rattle.mk_run.specs.inner.Underway.{Setting, put, reply_in}
 use Rattle.mk_run.proofs.Going.{bool_or_not}
 use Rattle.mk_run.proofs.Linked.{within_below}
-use Rattle.mk_sched.proofs.Pushed.{not_empty}
 use Rattle.mk_resume_walk.specs.Talks.{free_items}
 use Rattle.mk_resume_walk.proofs.GoingOn.{walk_laws}
 use Rattle.mk_resume_links.specs.inner.Catching.{awaited}
@@ -30,6 +28,8 @@ use Rattle.mk_resume_loop.specs.inner.Turns.{BeginsAs, IsDue, IsSized, PassesAs,
 use Rattle.mk_resume_loop.specs.inner.Underway.{BehindSeen, IsPassed, IsResuming, IsResumingWith, StandsAt, course_of, saved_of}
 use Rattle.mk_resume_loop.proofs.Beginning.{first_above, first_below, first_here, first_more, first_of}
 use Rattle.mk_resume_loop.proofs.Passing.{awaited_outside, resuming_as}
+use Rattle.mk_base.proofs.Counts.{same_or_not}
+use Rattle.mk_base.proofs.Items.{not_empty}
 
 front_of : {X : Type 0} (k : ℕ) (f : ℕ → List X) (i : ℕ) → BeginsWith (f i) (first_of k f i)
 front_of k f i = elim (nat_lt i k) as (λ b. BeginsWith (f i) (if b then f i else [])) [ true ↦ ([], sym (append_nil (f i))) | false ↦ (f i, refl) ]

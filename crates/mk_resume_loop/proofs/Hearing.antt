@@ -8,19 +8,16 @@ use Rattle.mk_plan.specs.declared.Item.{Item}
 use Rattle.mk_plan.specs.declared.Message.{Message}
 use Rattle.mk_plan.specs.declared.Entry.{Entry}
 use Rattle.mk_plan.specs.Plans.{sim_count}
-use Rattle.mk_message.specs.Written.{is_in_range}
 use Rattle.mk_outside.specs.declared.fleet.LogEntry.{LogEntry}
 use Rattle.mk_outside.specs.declared.fleet.LogEntry.TheVariants.{Rest}
 use Rattle.mk_outside.specs.Logs.{heard_on}
-use Rattle.mk_sched.specs.Cores.{is_message_in_range}
 use Rattle.mk_local.specs.Simulators.{Simulator}
 use Rattle.mk_run_laws.specs.Hearing.{messages_heard}
 use Rattle.mk_run_laws.specs.Handshake.{setup_count, sim_link, is_within}
 use Rattle.mk_run_laws.specs.Channels.{Channel}
 use Rattle.mk_run_laws.specs.Crews.{CrewState, channel_at, given_by, IsMovedAt, IsHeard}
 use Rattle.mk_run_laws.specs.Rests.{AllSetUp}
-use Rattle.mk_run_laws.proofs.Moving.{heard_more}
-use Rattle.mk_run_laws.proofs.Stepping.{first_or_second, same_is}
+use Rattle.mk_run_laws.proofs.Stepping.{first_or_second}
 use Rattle.mk_run_laws.proofs.Taking.{takes_on, taken_heard}
 use Rattle.mk_run_links.specs.Entries.{AreOn, IsRunLink}
 use Rattle.mk_run_links.proofs.OnEntries.{on_more}
@@ -28,7 +25,7 @@ use Rattle.mk_run_local.specs.Calls.{IsFitSuccess}
 use Rattle.mk_run.specs.Ends.{SetupRestsWell}
 use Rattle.mk_run.specs.inner.Underway.{Setting, reply_in, Suits, HasNoOther, IsLogRight}
 use Rattle.mk_run.proofs.Hearing.{taken_read}
-use Rattle.mk_run.proofs.InRange.{same_test, success_in_range}
+use Rattle.mk_run.proofs.InRange.{success_in_range}
 use Rattle.mk_run.proofs.Linked.{linked_outside, within_below, no_other_heard}
 use Rattle.mk_resume_walk.specs.Talks.{free_items}
 use Rattle.mk_resume_links.specs.Rests.{Counts, repeated}
@@ -36,6 +33,9 @@ use Rattle.mk_resume_links.specs.inner.Touching.{IsInTouch}
 use Rattle.mk_resume_links.specs.inner.Catching.{WasAwaited, awaited}
 use Rattle.mk_resume_links.proofs.Catching.{apart_within}
 use Rattle.mk_resume_loop.specs.inner.Underway.{IsMet, IsResuming, saved_of}
+use Rattle.mk_base.proofs.Counts.{same_self}
+use Rattle.mk_outside.proofs.OnLogs.{heard-append}
+use Rattle.mk_plan.specs.Messages.{is_message_in_range}
 
 -- ---- the handshake's rests: once the run goes on, all have set up
 
@@ -46,7 +46,7 @@ module _ (T : Setting) (messages : ℕ → List Message) (items : ℕ → List I
       let ms : List Message = T.replies i ++ messages i in
       let t = takes_on (heard_on h.channel.link log) ms h.channel.held (heard_on h.channel.link less) h.in_step.heard in
       let heard : messages_heard (heard_on l (log ++ less)) ≡ ms ++ messages_heard (h.channel.held ++ heard_on h.channel.link less) =
-      ap (λ (k : LinkNo). messages_heard (heard_on k (log ++ less))) (sym h.link) ∙ ap messages_heard (heard_more h.channel.link log less)
+      ap (λ (k : LinkNo). messages_heard (heard_on k (log ++ less))) (sym h.link) ∙ ap messages_heard (heard-append h.channel.link log less)
       ∙ taken_heard (heard_on h.channel.link log ++ heard_on h.channel.link less) ms (h.channel.held ++ heard_on h.channel.link less) t in
       let a : length (messages_heard (heard_on l (log ++ less))) ≡ length ms + length (messages_heard (h.channel.held ++ heard_on h.channel.link less)) = ap length heard ∙ length-append ms (messages_heard (h.channel.held ++ heard_on h.channel.link less)) in
       let b : length ms ≡ length (T.replies i) + length (messages i) = length-append (T.replies i) (messages i) in
@@ -88,20 +88,20 @@ module _ (T : Setting) (P : Plan) (first J : List Entry) (heard : Counts) (log :
       go (IsHeard.on_link none after w there moved parked) = let t = met_back w there in in_plan (linked_outside T.started T.scenario s.0 t.0 t.1).1
 
   -- its numbers are in range
-  pub met_fits : is_in_range m ≡ true
+  pub met_fits : is_message_in_range m ≡ true
   met_fits = go h.met
     where
-      by_channel : (o p : Option Channel) (w : Channel) → o ≡ Some w → IsMovedAt h.entries (given_by s.0 m s.0) o p → is_in_range m ≡ true
+      by_channel : (o p : Option Channel) (w : Channel) → o ≡ Some w → IsMovedAt h.entries (given_by s.0 m s.0) o p → is_message_in_range m ≡ true
       by_channel None p w e moved = absurd (none_some e)
       by_channel (Some v) None w e moved = absurd moved
-      by_channel (Some v) (Some x) w e moved = taken_read _ (given_by s.0 m s.0) _ m moved.taken (ap (λ (b : Bool). if b then m ∷ [] else []) (same_is s.0))
+      by_channel (Some v) (Some x) w e moved = taken_read _ (given_by s.0 m s.0) _ m moved.taken (ap (λ (b : Bool). if b then m ∷ [] else []) (same_self s.0))
 
-      go : IsHeard h.entries s.0 m h.crew D → is_in_range m ≡ true
+      go : IsHeard h.entries s.0 m h.crew D → is_message_in_range m ≡ true
       go (IsHeard.kept is channels none) = success_in_range m (h.fit (record { sim = s.0; message = m }) D.kept is)
       go (IsHeard.on_link none after w there moved parked) = by_channel (channel_at h.crew s.0) (channel_at D s.0) w there (moved s.0)
 
   pub met_in_range : is_message_in_range m ≡ true
-  met_in_range = same_test m met_fits
+  met_in_range = met_fits
 
   -- that of a simulator within the program is a success
   pub met_success : is_within T.scenario s.0 ≡ true → IsFitSuccess m

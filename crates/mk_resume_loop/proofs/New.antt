@@ -26,7 +26,7 @@ use Rattle.mk_run_laws.specs.Handshake.{is_within, setup_count, sim_link}
 use Rattle.mk_run_laws.specs.Channels.{Channel}
 use Rattle.mk_run_laws.specs.Crews.{CrewState, IsHeard, IsSentWithin, kept_of, channel_at}
 use Rattle.mk_run_laws.proofs.Saying.{link_there}
-use Rattle.mk_run_laws.proofs.Stepping.{same_or_not, sent_got, got_here, linked_out}
+use Rattle.mk_run_laws.proofs.Stepping.{sent_got, got_here, linked_out}
 use Rattle.mk_run_local.specs.Laws.{RepliesAreKinds}
 use Rattle.mk_run_crew.specs.Seen.{CrewSeen, crew_of, is_here}
 use Rattle.mk_run_crew.specs.Calls.{HasNext, SendsAs}
@@ -49,6 +49,7 @@ use Rattle.mk_resume_loop.proofs.Resting.{resting}
 use Rattle.mk_resume_loop.proofs.Hearing.{met_back, met_fits, met_low, met_no_other, met_log_right, met_success}
 use Rattle.mk_run.proofs.ItemSent.{come_as, come_sent, kept_so, no_other_after, not_here_is_outside, only_sent}
 use Rattle.mk_run.proofs.SmallIds.{few_behind, small_next}
+use Rattle.mk_base.proofs.Counts.{same_or_not}
 
 one_behind : (k n : ℕ) → (k ≡ n) ⊎ (k ≡ n + 1) → n < k → k ≡ n + 1
 one_behind k n (inl p) more = absurd (omega (arith, p, more))

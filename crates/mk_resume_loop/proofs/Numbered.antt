@@ -19,7 +19,8 @@ use Rattle.mk_resume_walk.proofs.Fronts.{free_alternate}
 use Rattle.mk_resume_walk.proofs.GoingOn.{up_to_counted}
 use Rattle.mk_resume_loop.specs.declared.behind.Standing.{Standing}
 use Rattle.mk_resume_loop.specs.inner.Underway.{StandsAt}
-use Rattle.mk_resume_loop.proofs.Standing.{get_at, next_behind, take_front}
+use Rattle.mk_resume_loop.proofs.Standing.{next_behind, take_front}
+use Rattle.mk_base.proofs.Items.{at_length}
 
 -- each entry of a simulator is an item or a message
 count_both : (J : List Entry) (i : ℕ) → own_count i J ≡ length (sent J i) + length (got J i)
@@ -42,7 +43,7 @@ pub entry_there : (J : List Entry) (i n p : ℕ) → IsNextAt J i n (Some p) →
 entry_there J i n p (s, m, later, own, parts, at) = (
   s,
   m,
-  ap (slice_get J) (sym at) ∙ ap (λ (l : List Entry). slice_get l (length (up_to i n J))) parts ∙ get_at (up_to i n J) later (Got s m),
+  ap (slice_get J) (sym at) ∙ ap (λ (l : List Entry). slice_get l (length (up_to i n J))) parts ∙ at_length (up_to i n J) later (Got s m),
 )
 
 twice_and_two : (a s g n : ℕ) → a ≡ s + g → s ≡ n + 1 → n ≡ g → a + 1 ≡ n + n + 2

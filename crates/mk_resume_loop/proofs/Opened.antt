@@ -20,7 +20,7 @@ use Rattle.mk_resume_links.specs.Rests.{Counts}
 use Rattle.mk_resume_loop.specs.Resumed.{SomeToCome}
 use Rattle.mk_resume_loop.specs.inner.Underway.{IsResuming}
 use Rattle.mk_resume_loop.proofs.Passing.{awaited_one}
-use Rattle.mk_resume_loop.proofs.Standing.{few_or_more}
+use Rattle.mk_base.proofs.Counts.{below_greatest, below_or_not}
 
 -- a view with this open turn everywhere, and this owed
 abbrev with_turn : View → Option OpenTurn → Option Owed → View
@@ -34,9 +34,6 @@ one_out V i owes opened = ap (λ (w : Option Owed). unanswered (with_turn V (V.o
     go None h = absurd (h refl)
     go (Some t) h = refl
 
-few_of : (g s n : ℕ) → g ≡ max s n → n ≤ g
-few_of g s n is = omega (arith, is)
-
 module _ (T : Setting) (P : Plan) (first J : List Entry) (heard : Counts) (log : List LogEntry) (C : CrewSeen) (u : IsResuming T P first J heard log (crew_of C) C.sims) where
   -- a simulator that is behind wasn't answered at its last item
   behind_waits : (i : ℕ) → heard i < length (got J i) → heard i < length (free_items J i (heard i))
@@ -44,14 +41,14 @@ module _ (T : Setting) (P : Plan) (first J : List Entry) (heard : Counts) (log :
 
   -- nor one at which a request is open
   open_waits : (i : ℕ) → ((view P J).open_at i ≡ None → ⊥) → heard i < length (free_items J i (heard i))
-  open_waits i opened = elim (few_or_more (heard i) (length (got J i))) [
+  open_waits i opened = elim (below_or_not (heard i) (length (got J i))) [
     | inl more ↦ behind_waits i more
     | inr all ↦ let b = balanced P J u.stands.orderly.0 u.no_fault i in let o = one_out (view P J) i u.paid opened in let f = ap length (free_all J i (heard i) all) in
         let g = few in omega (arith, b, o, f, all, g)
   ]
     where
       few : heard i ≤ length (got J i)
-      few = few_of (length (got J i)) (length (got first i)) (heard i) (u.catching.counts i)
+      few = below_greatest (length (got J i)) (length (got first i)) (heard i) (u.catching.counts i)
 
   pub can_hear : SomeToCome P J heard → CanHear C
   can_hear unfinished none = elim unfinished [ inl t ↦ by_sim t.0 t.1.0 (open_waits t.0 t.1.1) | inr t ↦ by_sim t.0 t.1 (behind_waits t.0 t.2) ]

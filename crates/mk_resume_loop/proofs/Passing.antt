@@ -18,7 +18,7 @@ use Rattle.mk_run_laws.specs.Channels.{Channel}
 use Rattle.mk_run_laws.specs.Kinds.{Replies}
 use Rattle.mk_run_laws.specs.Crews.{CrewState, channel_at, given_by}
 use Rattle.mk_run_laws.proofs.Saying.{link_there}
-use Rattle.mk_run_laws.proofs.Stepping.{same_or_not, linked_out}
+use Rattle.mk_run_laws.proofs.Stepping.{linked_out, given_here, given_away}
 use Rattle.mk_run_local.specs.Laws.{HasCome, RepliesAreKinds}
 use Rattle.mk_run_crew.specs.Seen.{CrewSeen, crew_of, is_here}
 use Rattle.mk_run_crew.specs.Calls.{HasNext, SendsAs}
@@ -30,31 +30,21 @@ use Rattle.mk_resume_links.specs.Rests.{Counts}
 use Rattle.mk_resume_links.specs.inner.Catching.{IsCatchingWith, awaited}
 use Rattle.mk_resume_links.proofs.Catching.{catching_kept, catching_queued}
 use Rattle.mk_resume_links.proofs.Closing.{seen}
-use Rattle.mk_resume_links.proofs.Growing.{given_away, given_here}
 use Rattle.mk_run.proofs.ItemSent.{come_sent, kept_so, no_other_after, not_here_is_outside, only_sent}
 use Rattle.mk_run.proofs.Putting.{put_away, put_here, put_same}
 use Rattle.mk_run.proofs.SmallIds.{few_sent, small_next}
 use Rattle.mk_resume_loop.specs.inner.Underway.{IsPassed, IsPassing, IsResumingWith, course_of, saved_of}
+use Rattle.mk_base.proofs.Counts.{equal_at_most, none_below, same_or_not}
+use Rattle.mk_base.proofs.Bools.{and_false}
 
 -- ---- what is awaited of a simulator
-
-below_none : (n k : ℕ) → k ≤ n → nat_lt n k ≡ false
-below_none n k few = go (nat_lt n k) refl
-  where
-    go : (b : Bool) → nat_lt n k ≡ b → b ≡ false
-    go true e = absurd (let low = ltb-true n k e in omega (arith, low, few))
-    go false e = refl
-
-and_false : (b : Bool) → (b && false) ≡ false
-and_false true = refl
-and_false false = refl
 
 module _ (S : Scenario) (reply : Replies) (J : List Entry) (heard : Counts) (i : ℕ) where
   pub awaited_outside : is_within S i ≡ false → awaited S reply J heard i ≡ []
   awaited_outside outside = ap (λ (b : Bool). if b && nat_lt (heard i) (length (free_items J i (heard i))) then reply i (map bare (free_items J i (heard i))) ∷ [] else []) outside
 
   pub awaited_none : length (free_items J i (heard i)) ≤ heard i → awaited S reply J heard i ≡ []
-  awaited_none few = ap (λ (b : Bool). if is_within S i && b then reply i (map bare (free_items J i (heard i))) ∷ [] else []) (below_none (heard i) (length (free_items J i (heard i))) few)
+  awaited_none few = ap (λ (b : Bool). if is_within S i && b then reply i (map bare (free_items J i (heard i))) ∷ [] else []) (none_below (heard i) (length (free_items J i (heard i))) few)
       ∙ ap (λ (b : Bool). if b then reply i (map bare (free_items J i (heard i))) ∷ [] else []) (and_false (is_within S i))
 
   pub awaited_one : is_within S i ≡ true → heard i < length (free_items J i (heard i)) → awaited S reply J heard i ≡ reply i (map bare (free_items J i (heard i))) ∷ []
@@ -83,9 +73,6 @@ resuming_as X Y A B T P first J heard log C sims items awaits u = record {
     in_plan : (i : ℕ) → i < length T.scenario.sims → i < sim_count P
     in_plan i low = subst (λ (n : ℕ). i < n) (sym u.suits.sims) low
 
-few_all : (k n : ℕ) → k ≡ n → k ≤ n
-few_all k n is = omega (arith, is)
-
 module _ (T : Setting) (P : Plan) (first J : List Entry) (heard : Counts) (X : ℕ → List Item) (A : ℕ → List Message) (log : List LogEntry) (s from : ℕ) (C : CrewSeen) (u : IsResumingWith (course_of T first heard X A log) P J (crew_of C) C.sims) (p : IsPassing (course_of T first heard X A log) P J s from) where
   abbrev free : List Item
   free = free_items J s (heard s)
@@ -96,7 +83,7 @@ module _ (T : Setting) (P : Plan) (first J : List Entry) (heard : Counts) (X : �
   -- nothing more is free
   pub passed_quietly : free ≡ X s → IsPassed (course_of T first heard X A log) P J s C
   passed_quietly is = resuming_as X (put X s free) A (put A s awaits) T P first J heard log (crew_of C) C.sims (λ i low. put_same X s free (sym is) i)
-      (put_same A s awaits (p.none ∙ sym (awaited_none T.scenario (reply_in T) J heard s (few_all (length free) (heard s) (ap length is ∙ p.answered))))) u
+      (put_same A s awaits (p.none ∙ sym (awaited_none T.scenario (reply_in T) J heard s (equal_at_most (length free) (heard s) (ap length is ∙ p.answered))))) u
 
   -- no more items are queued than the journal has entries
   few_queued : length (X s) ≤ length J + 1

@@ -14,7 +14,6 @@ use Rattle.mk_outside.specs.declared.fleet.LogEntry.{LogEntry}
 use Rattle.mk_sched.specs.Cores.{CoreState}
 use Rattle.mk_run_laws.specs.Handshake.{is_within}
 use Rattle.mk_run_laws.specs.Crews.{kept_of}
-use Rattle.mk_run_laws.proofs.Stepping.{same_or_not}
 use Rattle.mk_run_local.specs.Calls.{IsFitSuccess}
 use Rattle.mk_run_crew.specs.Seen.{CrewSeen, crew_of}
 use Rattle.mk_run.specs.inner.Underway.{Setting, put, reply_in}
@@ -33,7 +32,9 @@ use Rattle.mk_resume_loop.proofs.Again.{IsRepeated, repeated_goes}
 use Rattle.mk_resume_loop.proofs.Hearing.{met_success}
 use Rattle.mk_run.proofs.Putting.{put_away, put_here}
 use Rattle.mk_resume_loop.proofs.Passing.{resuming_as}
-use Rattle.mk_resume_loop.proofs.Standing.{get_at, next_behind, take_front}
+use Rattle.mk_resume_loop.proofs.Standing.{next_behind, take_front}
+use Rattle.mk_base.proofs.Counts.{same_or_not}
+use Rattle.mk_base.proofs.Items.{at_length}
 
 -- ---- the message that has to be sent again
 
@@ -43,7 +44,7 @@ module _ (J : List Entry) (i n p : ℕ) (t : IsNextAt J i n (Some p)) where
   next_there x kept there = go t
     where
       go : (u : IsNextAt J i n (Some p)) → u.1 ≡ kept
-      go (s, m, later, own, parts, at) = same_message s x m kept (some_same (sym (get_at (up_to i n J) later (Got s m)) ∙ ap (λ (l : List Entry). slice_get l (length (up_to i n J))) (sym parts) ∙ ap (slice_get J) at ∙ there))
+      go (s, m, later, own, parts, at) = same_message s x m kept (some_same (sym (at_length (up_to i n J) later (Got s m)) ∙ ap (λ (l : List Entry). slice_get l (length (up_to i n J))) (sym parts) ∙ ap (slice_get J) at ∙ there))
 
   -- it is the next of the simulator's messages
   pub next_message : (x : SimNo) (kept : Message) → slice_get J p ≡ Some (Got x kept) → slice_get (got J i) n ≡ Some kept
@@ -54,7 +55,7 @@ module _ (J : List Entry) (i n p : ℕ) (t : IsNextAt J i n (Some p)) where
           let all : got J i ≡ got (up_to i n J) i ++ m ∷ got later i = ap (λ (K : List Entry). got K i) parts ∙ filter_map_append (got_from i) (up_to i n J) (Got s m ∷ later)
           ∙ ap (λ b. got (up_to i n J) i ++ cons_option (if b then Some m else None) (got later i)) (eq-eqb s.0 i own) in
           ap (λ (k : ℕ). slice_get (got J i) k) (up_to_counted J i n (next_behind J i n p (s, m, later, own, parts, at))) ∙ ap (λ (l : List Message). slice_get l (length (got (up_to i n J) i))) all
-          ∙ get_at (got (up_to i n J) i) (got later i) m ∙ ap (λ (k : Message). Some k) same
+          ∙ at_length (got (up_to i n J) i) (got later i) m ∙ ap (λ (k : Message). Some k) same
 
   -- and the last of those before the place behind it
   pub next_last : (x : SimNo) (kept : Message) → slice_get J p ≡ Some (Got x kept) → (H : List Entry) (y : SimNo) (m : Message) → take (p + 1) J ≡ H ++ Got y m ∷ [] → m ≡ kept

@@ -15,7 +15,7 @@ use Rattle.mk_plan.specs.Orderly.{IsOrderlyFrom, IsOrderlySoFar}
 use Rattle.mk_plan.specs.Journals.{View, empty_view, got, note, sent, view}
 use Rattle.mk_plan.specs.Sequential.{id_after}
 use Rattle.mk_order.proofs.Pushing.{orderly_front}
-use Rattle.mk_run_laws.proofs.Stepping.{same_or_not, got_here, got_away}
+use Rattle.mk_run_laws.proofs.Stepping.{got_here, got_away}
 use Rattle.mk_resume_walk.specs.Talks.{free_items, up_to}
 use Rattle.mk_resume_walk.specs.Walks.{IsFirstOwn, IsGoneTo, IsNextAt, is_of}
 use Rattle.mk_resume_walk.specs.Index.{own_count}
@@ -28,6 +28,8 @@ use Rattle.mk_resume_links.proofs.Catching.{more_away, more_here}
 use Rattle.mk_resume_links.proofs.Growing.{count_sent}
 use Rattle.mk_resume_loop.specs.declared.behind.Standing.{Standing}
 use Rattle.mk_resume_loop.specs.inner.Underway.{StandsAt}
+use Rattle.mk_base.proofs.Counts.{below_or_not, same_or_not}
+use Rattle.mk_base.proofs.Items.{at_length}
 
 -- ---- lists
 
@@ -38,27 +40,18 @@ take_front (x ∷ U) X = ap (λ (l : List Entry). x ∷ l) (take_front U X)
 more_than : (U X : List Entry) (e : Entry) → U ≡ U ++ e ∷ X → ⊥
 more_than U X e is = let a : length U ≡ length U + suc (length X) = ap length is ∙ length-append U (e ∷ X) in omega (arith, a)
 
-pub get_at : {X : Type 0} (A B : List X) (x : X) → slice_get (A ++ x ∷ B) (length A) ≡ Some x
-get_at [] B x = refl
-get_at (a ∷ A) B x = get_at A B x
-
 -- the entry behind those that were dropped
 pub get_dropped : (from : ℕ) (J between later : List Entry) (e : Entry) → drop from J ≡ between ++ e ∷ later → slice_get J (from + length between) ≡ Some e
-get_dropped zero J between later e is = ap (λ (k : ℕ). slice_get J k) (let n : 0 + length between ≡ length between = omega arith in n) ∙ ap (λ (l : List Entry). slice_get l (length between)) is ∙ get_at between later e
+get_dropped zero J between later e is = ap (λ (k : ℕ). slice_get J k) (let n : 0 + length between ≡ length between = omega arith in n) ∙ ap (λ (l : List Entry). slice_get l (length between)) is ∙ at_length between later e
 get_dropped (suc from) [] [] later e is = absurd (cc)
 get_dropped (suc from) [] (x ∷ between) later e is = absurd (cc)
 get_dropped (suc from) (y ∷ J) between later e is = ap (λ (k : ℕ). slice_get (y ∷ J) k) (let n : suc from + length between ≡ suc (from + length between) = omega arith in n) ∙ get_dropped from J between later e is
-
-pub few_or_more : (n k : ℕ) → (n < k) ⊎ (k ≤ n)
-few_or_more n zero = inr (omega arith)
-few_or_more zero (suc k) = inl (omega arith)
-few_or_more (suc n) (suc k) = elim (few_or_more n k) [ inl low ↦ inl (omega (arith, low)) | inr high ↦ inr (omega (arith, high)) ]
 
 -- ---- the journal grows
 
 -- who has to send a message again is behind
 pub next_behind : (J : List Entry) (i n p : ℕ) → IsNextAt J i n (Some p) → n < length (got J i)
-next_behind J i n p (s, m, later, own, parts, at) = elim (few_or_more n (length (got J i))) [
+next_behind J i n p (s, m, later, own, parts, at) = elim (below_or_not n (length (got J i))) [
   | inl more ↦ more
   | inr few ↦ absurd (more_than J later (Got s m) (parts ∙ ap (λ (l : List Entry). l ++ Got s m ∷ later) (up_to_all i n J few)))
 ]

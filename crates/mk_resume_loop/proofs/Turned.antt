@@ -43,12 +43,7 @@ use Rattle.mk_resume_loop.proofs.Endings.{done_ends, unheard_ends}
 use Rattle.mk_resume_loop.proofs.Opened.{can_hear}
 use Rattle.mk_resume_loop.proofs.Standing.{next_behind}
 use Rattle.mk_resume_loop.proofs.Turning.{past_it}
-
--- the entry at an index within a list
-slice_get_at : {X : Type 0} (xs : List X) (i : ℕ) → i < length xs → (x : X) × (slice_get xs i ≡ Some x)
-slice_get_at [] i low = absurd (omega (arith, low))
-slice_get_at (x ∷ xs) zero low = (x, refl)
-slice_get_at (x ∷ xs) (suc i) low = slice_get_at xs i (omega (arith, low))
+use Rattle.mk_base.proofs.Items.{get_there}
 
 -- ---- an end stays, whatever rises besides
 
@@ -129,7 +124,7 @@ all_over old new C D B p asks is nobody T first heard log before =
   where
     caught : GoesOn T first heard new log D B → (i : ℕ) → i < sim_count new.plan → heard i ≡ length (got new.entries i)
     caught u i low =
-        let there = slice_get_at B.sims i (subst (λ (n : ℕ). i < n) (sym u.1.sims) low) in
+        let there = get_there B.sims i (subst (λ (n : ℕ). i < n) (sym u.1.sims) low) in
         u.1.each i None (there.1 ∙ ap (λ (o : Option Standing). Some o) (nobody i there.0 there.1))
 
 -- something is to come

@@ -29,17 +29,12 @@ use Rattle.mk_resume_loop.specs.inner.Turns.{IsDue, Walk}
 use Rattle.mk_resume_loop.proofs.Passing.{passed_quietly, passed_sent, passing_linked}
 use Rattle.mk_resume_loop.proofs.Replied.{replied_anew}
 use Rattle.mk_resume_loop.proofs.Standing.{at_most_one, get_dropped, gone_all, gone_got, gone_sent, take_front}
+use Rattle.mk_local.proofs.Replied.{replied_takes}
 
 next_id : (n id : ℕ) (items : List Item) (item : Item) → id ≡ id_after n items → id_after id (item ∷ []) ≡ id_after n (items ++ item ∷ [])
 next_id n id items item is =
     let e = ap length (filter_append takes_id items (item ∷ [])) ∙ length-append (filter takes_id items) (filter takes_id (item ∷ [])) in
     omega (arith, e, is)
-
-replied_takes : (item : Item) → IsItemReplied item → takes_id item ≡ true
-replied_takes (Step x ins advance) r = refl
-replied_takes (GetData wants) r = refl
-replied_takes (Answer asked content) r = absurd r
-replied_takes (Refuse asked reason) r = absurd r
 
 drop_front : (U X : List Entry) → drop (length U) (U ++ X) ≡ X
 drop_front [] X = refl

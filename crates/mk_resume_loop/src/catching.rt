@@ -7,7 +7,6 @@ ghost use Rattle.mk_plan.specs.declared.Entry.{Entry};
 ghost use Rattle.mk_plan.specs.declared.Entry.TheVariants.{Got};
 ghost use Rattle.mk_plan.specs.declared.Message.{Message};
 ghost use Rattle.mk_plan.specs.Plans.{sim_count};
-ghost use Rattle.mk_sched.specs.Cores.{is_message_in_range};
 ghost use Rattle.mk_run_links.specs.Places.{AreOpen};
 ghost use Rattle.mk_run_local.specs.Seen.{AreOf};
 ghost use Rattle.mk_run_crew.specs.Seen.{within_of};
@@ -27,6 +26,7 @@ ghost use Rattle.mk_run_crew.specs.Calls.{SendsAs};
 ghost use Rattle.mk_local.specs.declared.turn.Turn.{Turn};
 ghost use Rattle.mk_plan.specs.declared.Item.{Item};
 ghost use Rattle.mk_resume_loop.specs.inner.Asking.{AsksAs};
+ghost use Rattle.mk_plan.specs.Messages.{is_message_in_range};
 
 use crate::behind::{Behind, Standing};
 use crate::ending::{Pause, ResumeEnd};

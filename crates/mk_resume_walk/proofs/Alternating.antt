@@ -21,6 +21,8 @@ use Rattle.mk_plan.specs.Advance.{IsAdvance}
 use Rattle.mk_plan.specs.Orderly.{IsNext, IsAllowed, IsOrderlyFrom, IsOrderlySoFar}
 use Rattle.mk_plan.proofs.OpenTurns.{stays_open}
 use Rattle.mk_resume_walk.specs.Laws.{TurnsAlternate}
+use Rattle.mk_base.proofs.Counts.{not_same, same_or_not}
+use Rattle.mk_base.proofs.Bools.{and_false}
 
 -- an item is owed to simulator i
 abbrev is_owed : Option Owed → ℕ → Bool
@@ -37,16 +39,6 @@ unanswered V i = out_by (is_some (V.open_at i)) (is_owed V.owed i)
 -- where an item is owed, the turn is open
 abbrev pub OwesOpen : View → Type 0
 OwesOpen V = (o : Owed) → V.owed ≡ Some o → is_some (V.open_at o.sim) ≡ true
-
-and_false : (b : Bool) → (b && false) ≡ false
-and_false true = refl
-and_false false = refl
-
-pub same_or_not : (a b : ℕ) → (a ≡ b) ⊎ (a ≡ b → ⊥)
-same_or_not a b = elim (a == b) as (λ c. (a == b) ≡ c → (a ≡ b) ⊎ (a ≡ b → ⊥)) [ true ↦ λ e. inl (eqb-true a b e) | false ↦ λ e. inr (λ q. true≢false (sym (eq-eqb a b q) ∙ e)) ] refl
-
-apart_is : (a b : ℕ) → (a ≡ b → ⊥) → (a == b) ≡ false
-apart_is a b n = elim (a == b) as (λ c. (a == b) ≡ c → c ≡ false) [ true ↦ λ e. absurd (n (eqb-true a b e)) | false ↦ λ e. refl ] refl
 
 -- an entry keeps the balance
 pub record KeepsBalance (V W : View) (e : Entry) : Type 0 where
@@ -72,7 +64,7 @@ module _ (P : Plan) (V : View) (owes : OwesOpen V) where
         record {
           none_out = ap (λ (b : Bool). out_by (is_some (V.open_at s.0)) b) owed ∙ ap (λ (b : Bool). if b then 1 else 0) (and_false (is_some (V.open_at s.0)));
           opened = stays_open P V s.0 item (ap (λ (j : ℕ). is_some (V.open_at j)) own ∙ owes p e);
-          others = λ i apart. ap (λ (o : Option Owed). is_owed o i) e ∙ apart_is p.sim i (λ q. apart (own ∙ q));
+          others = λ i apart. ap (λ (o : Option Owed). is_owed o i) e ∙ not_same p.sim i (λ q. apart (own ∙ q));
         }
     sends_step None e next = by_item item next
       where
@@ -102,9 +94,9 @@ module _ (P : Plan) (V : View) (owes : OwesOpen V) where
             let c : unanswered (note_sent P V s.0 item) s.0 ≡ 1 = ap (λ (d : Bool). out_by (is_some (if d then open_after P V s.0 item else V.open_at s.0)) false) (eq-eqb s.0 s.0 refl) ∙ ap (λ (d : Bool). out_by d false) t.opened in
             omega (arith, a, b, c))
         | inr apart ↦
-            let a : length (sent (Sent s item ∷ []) i) ≡ 0 = ap (λ (b : Bool). length (cons_option (if b then Some item else None) [])) (apart_is s.0 i apart) in
+            let a : length (sent (Sent s item ∷ []) i) ≡ 0 = ap (λ (b : Bool). length (cons_option (if b then Some item else None) [])) (not_same s.0 i apart) in
             let b : unanswered V i ≡ out_by (is_some (V.open_at i)) false = ap (λ (d : Bool). out_by (is_some (V.open_at i)) d) (t.others i apart) in
-            let c : unanswered (note_sent P V s.0 item) i ≡ out_by (is_some (V.open_at i)) false = ap (λ (d : Bool). out_by (is_some (if d then open_after P V s.0 item else V.open_at i)) false) (apart_is i s.0 (λ q. apart (sym q))) in
+            let c : unanswered (note_sent P V s.0 item) i ≡ out_by (is_some (V.open_at i)) false = ap (λ (d : Bool). out_by (is_some (if d then open_after P V s.0 item else V.open_at i)) false) (not_same i s.0 (λ q. apart (sym q))) in
             omega (arith, a, b, c)
       ];
     }
@@ -130,13 +122,13 @@ module _ (P : Plan) (V : View) (owes : OwesOpen V) where
     by_place T None e = record {
       before = ap (λ (o : Option OpenTurn). is_some o) e;
       here = ap (λ (d : Bool). out_by (is_some (if d then None else V.open_at s.0)) (is_owed V.owed s.0)) (eq-eqb s.0 s.0 refl);
-      others = λ i apart. ap (λ (d : Bool). out_by (is_some (if d then None else V.open_at i)) (is_owed V.owed i)) (apart_is i s.0 (λ q. apart (sym q)));
+      others = λ i apart. ap (λ (d : Bool). out_by (is_some (if d then None else V.open_at i)) (is_owed V.owed i)) (not_same i s.0 (λ q. apart (sym q)));
       owes_now = λ o q. absurd (none_some (sym none ∙ q));
     }
     by_place T (Some q) e = record {
       before = ap (λ (o : Option OpenTurn). is_some o) e;
       here = ap (λ (d : Bool). out_by (is_some (if d then Some (told_on T q) else V.open_at s.0)) (s.0 == s.0)) (eq-eqb s.0 s.0 refl) ∙ ap (λ (d : Bool). out_by true d) (eq-eqb s.0 s.0 refl);
-      others = λ i apart. ap (λ (d : Bool). out_by (is_some (if d then Some (told_on T q) else V.open_at i)) (s.0 == i)) (apart_is i s.0 (λ r. apart (sym r))) ∙ ap (λ (d : Bool). out_by (is_some (V.open_at i)) d) (apart_is s.0 i apart)
+      others = λ i apart. ap (λ (d : Bool). out_by (is_some (if d then Some (told_on T q) else V.open_at i)) (s.0 == i)) (not_same i s.0 (λ r. apart (sym r))) ∙ ap (λ (d : Bool). out_by (is_some (V.open_at i)) d) (not_same s.0 i apart)
           ∙ sym (ap (λ (o : Option Owed). out_by (is_some (V.open_at i)) (is_owed o i)) none);
       owes_now = λ o h. let own : s.0 ≡ o.sim = ap (λ (x : Owed). x.sim) (some_same h) in ap (λ (d : Bool). is_some (if d then Some (told_on T q) else V.open_at o.sim)) (eq-eqb o.sim s.0 (sym own));
     }
@@ -156,7 +148,7 @@ module _ (P : Plan) (V : View) (owes : OwesOpen V) where
             let c = t.here in
             omega (arith, a, b, c))
         | inr apart ↦
-            let a : length (got (Got s m ∷ []) i) ≡ 0 = ap (λ (b : Bool). length (cons_option (if b then Some m else None) [])) (apart_is s.0 i apart) in
+            let a : length (got (Got s m ∷ []) i) ≡ 0 = ap (λ (b : Bool). length (cons_option (if b then Some m else None) [])) (not_same s.0 i apart) in
             let b = t.others i apart in
             omega (arith, a, b)
       ];

@@ -15,9 +15,10 @@ use Rattle.mk_plan.specs.Advance.{IsAdvance}
 use Rattle.mk_plan.specs.Orderly.{IsOrderlyFrom, IsOrderlySoFar}
 use Rattle.mk_resume_walk.specs.Talks.{free_items, up_to}
 use Rattle.mk_resume_walk.specs.Laws.{FreeItemsAlternate}
-use Rattle.mk_resume_walk.proofs.Alternating.{alternate, balanced, none_open, same_or_not}
+use Rattle.mk_resume_walk.proofs.Alternating.{alternate, balanced, none_open}
 use Rattle.mk_resume_walk.proofs.GoingOn.{up_to_counted}
 use Rattle.mk_resume_walk.proofs.UpTo.{IsNextAfter, free_all, next_after}
+use Rattle.mk_base.proofs.Counts.{same_or_not}
 
 -- ---- beginnings of a journal
 

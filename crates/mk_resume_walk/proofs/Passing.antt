@@ -13,27 +13,20 @@ use Rattle.mk_plan.specs.Journals.{sent, got, sent_to, got_from}
 use Rattle.mk_resume_walk.specs.Talks.{up_to, free_items}
 use Rattle.mk_resume_walk.specs.Walks.{has_none, IsGoneTo, IsNextAt}
 use Rattle.mk_resume_walk.proofs.UpTo.{up_to_all, up_to_behind, up_to_head}
+use Rattle.mk_base.proofs.Bools.{both_hold, not_true}
 
 -- ---- entries of others
-
-split_and : (a b : Bool) → (a && b) ≡ true → (a ≡ true) × (b ≡ true)
-split_and true b e = (refl, e)
-split_and false b e = absurd (true≢false (sym e))
-
-not_true : (b : Bool) → not b ≡ true → b ≡ false
-not_true true e = absurd (true≢false (sym e))
-not_true false e = refl
 
 module _ (i : ℕ) where
   pub none_got : (B : List Entry) → has_none i B ≡ true → got B i ≡ []
   none_got [] h = refl
-  none_got (Sent s item ∷ B) h = none_got B (split_and (not (s.0 == i)) (has_none i B) h).1
-  none_got (Got s m ∷ B) h = let t = split_and (not (s.0 == i)) (has_none i B) h in ap (λ (b : Bool). cons_option (if b then Some m else None) (got B i)) (not_true (s.0 == i) t.0) ∙ none_got B t.1
+  none_got (Sent s item ∷ B) h = none_got B (both_hold (not (s.0 == i)) (has_none i B) h).1
+  none_got (Got s m ∷ B) h = let t = both_hold (not (s.0 == i)) (has_none i B) h in ap (λ (b : Bool). cons_option (if b then Some m else None) (got B i)) (not_true (s.0 == i) t.0) ∙ none_got B t.1
 
   pub none_sent : (B : List Entry) → has_none i B ≡ true → sent B i ≡ []
   none_sent [] h = refl
-  none_sent (Sent s item ∷ B) h = let t = split_and (not (s.0 == i)) (has_none i B) h in ap (λ (b : Bool). cons_option (if b then Some item else None) (sent B i)) (not_true (s.0 == i) t.0) ∙ none_sent B t.1
-  none_sent (Got s m ∷ B) h = none_sent B (split_and (not (s.0 == i)) (has_none i B) h).1
+  none_sent (Sent s item ∷ B) h = let t = both_hold (not (s.0 == i)) (has_none i B) h in ap (λ (b : Bool). cons_option (if b then Some item else None) (sent B i)) (not_true (s.0 == i) t.0) ∙ none_sent B t.1
+  none_sent (Got s m ∷ B) h = none_sent B (both_hold (not (s.0 == i)) (has_none i B) h).1
 
   got_parts : (A B : List Entry) → got (A ++ B) i ≡ got A i ++ got B i
   got_parts A B = filter_map_append (got_from i) A B

@@ -34,13 +34,14 @@ use Rattle.mk_run_crew.specs.Begun.{HasBegun}
 use Rattle.mk_run_crew.specs.Halted.{HasHalted}
 use Rattle.mk_run_crew.specs.Seen.{CrewSeen, crew_of}
 use Rattle.mk_run_crew.proofs.Stopped.{all_said}
-use Rattle.mk_run.proofs.Inside.{here_within, within_there}
+use Rattle.mk_run.proofs.Inside.{here_within}
 use Rattle.mk_run.specs.inner.Underway.{Setting, reply_in, IsUnderway}
 use Rattle.mk_run.specs.declared.outcome.Outcome.{Outcome}
 use Rattle.mk_run.specs.Ran.{RunsAs}
 use Rattle.mk_run.specs.inner.Turns.{AreLinksOpen, PlanRunsAs}
-use Rattle.mk_sched.proofs.Pushed.{not_empty}
-use Rattle.mk_run.proofs.Turning.{risen_on}
+use Rattle.mk_base.proofs.Items.{not_empty}
+use Rattle.mk_session.proofs.Polling.{risen_after}
+use Rattle.mk_run_crew.proofs.Simulators.{within_there}
 
 -- before any entry
 pub stands_first : (P : Plan) → IsValidPlan P → Stands P []
@@ -105,4 +106,4 @@ module _ (started : ℕ) (S : Scenario) (ranks : List ℕ) (rows : List Turn) (l
       record { answers = b.answers; made = subst (IsMade S ranks b.answers) (sym t.0) b.made; kinds = b.kinds; first = λ i lower. run_first Q t.0 i lower; run = t.1; told = λ i l linked. ap (λ (f : SetupReplies). f i) t.2 ∙ b.told i l linked }
   runs_so prepared more f0 f1 f2 low (Some Q) None end r = absurd r
   runs_so prepared more f0 f1 f2 low None (Some J) end r = absurd r
-  runs_so prepared more f0 f1 f2 low None None end r = record { halt = halt.Mem; is = r.0; halted = run_halts more (HasRisen f1 f2) (HasRisen f0 f2) (risen_on f0 f1 f2 low) r.1 r.2 r.3 }
+  runs_so prepared more f0 f1 f2 low None None end r = record { halt = halt.Mem; is = r.0; halted = run_halts more (HasRisen f1 f2) (HasRisen f0 f2) (risen_after f0 f1 f2 low) r.1 r.2 r.3 }

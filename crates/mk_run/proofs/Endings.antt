@@ -57,6 +57,7 @@ use Rattle.mk_run.proofs.Linked.{no_other_moved}
 use Rattle.mk_sched.proofs.Pushed.{fault_after_sent, patient_sent, patient_got}
 use Rattle.mk_run.proofs.Pushed.{kinds_sent, range_sent, range_got, sent_front, got_front, rests_longer}
 use Rattle.mk_run.proofs.ChannelsStopped.{begins_itself}
+use Rattle.mk_run_crew.proofs.Halting.{last_in}
 
 pub queued_itself : (end : Outcome) (items : List Item) → QueuedAll end items items
 queued_itself outcome.Done items = refl
@@ -82,16 +83,6 @@ none_named halt.Mem = refl
 -- nor does the limit of entries
 pub limit_unnamed : (f : CoreFault) (n : ℕ) → f ≡ TooLong n → None ≡ fault_named (outcome.Core f)
 limit_unnamed f n is = sym (ap fault_in is)
-
--- the last entry that passes is one of them
-pub last_is_in : (test : LogEntry → Bool) (entries : List LogEntry) (e : LogEntry) → last_that test entries ≡ Some e → IsIn e entries
-last_is_in test [] e is = absurd (none_some is)
-last_is_in test (x ∷ entries) e is = go (λ q. last_is_in test entries e q) (last_that test entries) refl (test x) is
-  where
-    go : (last_that test entries ≡ Some e → IsIn e entries) → (o : Option LogEntry) → last_that test entries ≡ o → (b : Bool) → later_of (if b then Some x else None) o ≡ Some e → IsIn e (x ∷ entries)
-    go further (Some y) there b q = inr (further (there ∙ q))
-    go further None there true q = inl (sym (some_same q))
-    go further None there false q = absurd (none_some q)
 
 module _ (T : Setting) where
   -- channels in step with the journal
@@ -297,7 +288,7 @@ module _ (T : Setting) where
         let w = shown.0 in
         let t = given_now sim.0 w shown.1 (none_first w.held (unfinished_none w.held shown.2.0)) in
         let l_is : w.link ≡ t.0 = ap (λ (v : Channel). v.link) (sym t.2) ∙ t.1.channel.link in
-        (t.0, t.1, in_back (Ended t.0) log entries (subst (λ (l : LinkNo). IsIn (Ended l) entries) l_is (last_is_in (is_read w.link) entries (Ended w.link) shown.2.1)))
+        (t.0, t.1, in_back (Ended t.0) log entries (subst (λ (l : LinkNo). IsIn (Ended l) entries) l_is (last_in (is_read w.link) entries (Ended w.link) shown.2.1)))
     by_link (link_halt.Garbled sim test) cause shown =
         let w = shown.0 in
         let b = shown.2 in

@@ -18,7 +18,7 @@ use Rattle.mk_plan.specs.declared.Plan.{Plan}
 use Rattle.mk_plan.specs.declared.PlanEntity.{PlanEntity}
 use Rattle.mk_plan.specs.declared.Want.{Want}
 use Rattle.mk_plan.specs.Plans.{IsValidPlan, kind_of, owner, eid_of, first_id, sim_count}
-use Rattle.mk_plan.specs.Turns.{wanted}
+use Rattle.mk_plan.specs.Turns.{wanted, want_of}
 use Rattle.mk_meta.specs.declared.meta.Meta.{Meta}
 use Rattle.mk_meta.specs.Metadata.{meta_in}
 use Rattle.mk_scenario.specs.declared.parts.SimPart.{SimPart}
@@ -36,28 +36,23 @@ use Rattle.mk_setup.specs.Requests.{id_before}
 use Rattle.mk_run_local.specs.Laws.{FitsKinds}
 use Rattle.mk_run_local.specs.Made.{first_at}
 use Rattle.mk_run_crew.specs.Answers.{AreKindAnswers}
-use Rattle.mk_run.proofs.Inside.{within_there}
 use Rattle.mk_run.proofs.Linked.{within_below}
+use Rattle.mk_base.proofs.Items.{front_get}
+use Rattle.mk_setup.proofs.Sequence.{init_to}
+use Rattle.mk_run_local.proofs.Numbers.{calls_kind}
+use Rattle.mk_run_crew.proofs.Simulators.{within_there}
 
 -- ---- the first request to each simulator
 
-abbrev init_of : ℕ × SimPart → Request
-init_of n = record { sim = n.0; call = Init n.1.id n.1.params }
-
-init_at : (k : ℕ) (sims : List SimPart) (i : ℕ) (s : SimPart) → slice_get sims i ≡ Some s → slice_get (map init_of (enumerate_from k sims)) i ≡ Some (init_of (k + i, s))
+init_at : (k : ℕ) (sims : List SimPart) (i : ℕ) (s : SimPart) → slice_get sims i ≡ Some s → slice_get (map init_to (enumerate_from k sims)) i ≡ Some (init_to (k + i, s))
 init_at k [] i s e = absurd (none_some e)
-init_at k (x ∷ sims) zero s e = let n : k ≡ k + 0 = omega arith in ap (λ (y : SimPart). Some (init_of (k, y))) (some_same e) ∙ ap (λ (j : ℕ). Some (init_of (j, s))) n
-init_at k (x ∷ sims) (suc i) s e = let n : k + 1 + i ≡ k + suc i = omega arith in init_at (k + 1) sims i s e ∙ ap (λ (j : ℕ). Some (init_of (j, s))) n
-
-front_get : {X : Type 0} (xs ys : List X) (i : ℕ) (x : X) → slice_get xs i ≡ Some x → slice_get (xs ++ ys) i ≡ Some x
-front_get [] ys i x e = absurd (none_some e)
-front_get (y ∷ xs) ys zero x e = e
-front_get (y ∷ xs) ys (suc i) x e = front_get xs ys i x e
+init_at k (x ∷ sims) zero s e = let n : k ≡ k + 0 = omega arith in ap (λ (y : SimPart). Some (init_to (k, y))) (some_same e) ∙ ap (λ (j : ℕ). Some (init_to (j, s))) n
+init_at k (x ∷ sims) (suc i) s e = let n : k + 1 + i ≡ k + suc i = omega arith in init_at (k + 1) sims i s e ∙ ap (λ (j : ℕ). Some (init_to (j, s))) n
 
 first_request : (S : Scenario) (i : ℕ) (s : SimPart) → slice_get S.sims i ≡ Some s → slice_get (setup_requests S) i ≡ Some (record { sim = i; call = Init s.id s.params })
 first_request S i s e =
     let n : 0 + i ≡ i = omega arith in
-    front_get _ _ i _ (front_get _ _ i _ (init_at 0 S.sims i s e ∙ ap (λ (j : ℕ). Some (init_of (j, s))) n))
+    front_get _ _ i _ (front_get _ _ i _ (init_at 0 S.sims i s e ∙ ap (λ (j : ℕ). Some (init_to (j, s))) n))
 
 -- ---- a simulator keeps its kind
 
@@ -65,23 +60,13 @@ refused_kind : (r : Result Json (List ℕ)) (done same : Simulator) → done.kin
 refused_kind (Ok content) done same e = e
 refused_kind (Err text) done same e = refl
 
-call_kind : (L : Simulator) (call : Call) → (after_call L call).kind ≡ L.kind
-call_kind L (Init sim params) = refused_kind (init_content L.kind params) _ L refl
-call_kind L (Create num model params) = refused_kind (create_content L.kind (length L.entities) num model params) _ L refl
-call_kind L SetupDone = refl
-call_kind L Stop = refl
-
-calls_kind : (L : Simulator) (calls : List Call) → (fold after_call L calls).kind ≡ L.kind
-calls_kind L [] = refl
-calls_kind L (call ∷ calls) = calls_kind (after_call L call) calls ∙ call_kind L call
-
 -- ---- what its reply to `init` says
 
 said_metadata : (T : Turn) (bad : Option (List ℕ)) (id other : ℕ) (content : Json) → message id (unless_bad bad (metadata T)) ≡ Success other content → metadata T ≡ content
 said_metadata T None id other content e = cc
 said_metadata T (Some name) id other content e = cc
 
-same_ok : {A E : Type 0} (x y : A) (r : Result A E) → r ≡ Ok x → r ≡ Ok y → x ≡ y
+pub same_ok : {A E : Type 0} (x y : A) (r : Result A E) → r ≡ Ok x → r ≡ Ok y → x ≡ y
 same_ok x y r e f = cc
 
 same_meta : (T : Turn) (content : Json) (m : Meta) → IsMetadataAccepted → metadata T ≡ content → meta_in content ≡ Ok m → m.kind ≡ type_of T
@@ -101,9 +86,6 @@ put_each Q w (v ∷ ws) here all = by_order (by_want w v) (put_each Q w ws here 
     by_order Less rest = (here, (all.0, all.1))
     by_order Equal rest = (here, all.1)
     by_order Greater rest = (all.0, rest)
-
-abbrev want_of : Plan → Conn → Want
-want_of P c = record { eid = eid_of P c.from; attr = c.from_attr }
 
 puts_each : (Q : Want → Type 0) (P : Plan) (cs : List Conn) (ws : List Want) → ((c : Conn) → IsIn c cs → Q (want_of P c)) → Each Q ws → Each Q (fold (λ (l : List Want) (c : Conn). put by_want (want_of P c) l) ws cs)
 puts_each Q P [] ws each all = all

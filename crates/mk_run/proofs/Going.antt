@@ -23,7 +23,6 @@ use Rattle.mk_run_laws.specs.Handshake.{setup_count, is_within}
 use Rattle.mk_run_laws.specs.Crews.{CrewState, IsSentWithin}
 use Rattle.mk_run_laws.specs.Rests.{AllSetUp}
 use Rattle.mk_run_laws.specs.inner.Running.{IsRunning}
-use Rattle.mk_run_laws.proofs.Moving.{heard_more}
 use Rattle.mk_run_laws.proofs.Saying.{link_there}
 use Rattle.mk_run_laws.proofs.Stepping.{first_or_second, sent_away, sent_here}
 use Rattle.mk_run_laws.proofs.Taking.{takes_on, taken_heard}
@@ -42,7 +41,9 @@ use Rattle.mk_run.proofs.Times.{ready_time}
 use Rattle.mk_run.specs.inner.Underway.{IsOnlyWithin}
 use Rattle.mk_run.proofs.ItemSent as item_sent
 use Rattle.mk_run.proofs.SmallIds.{few_more, few_sent, small_next}
-pub use Rattle.mk_run.proofs.ItemSent.{bool_or_not, here_is_within}
+use Rattle.mk_base.proofs.Bools.{true_or_false}
+use Rattle.mk_outside.proofs.OnLogs.{heard-append}
+pub use Rattle.mk_run.proofs.ItemSent.{here_is_within}
 
 module _ (T : Setting) where
   -- ---- an item was sent
@@ -75,7 +76,7 @@ module _ (T : Setting) where
       let ms : List Message = T.replies i ++ got J i in
       let t = takes_on (heard_on h.channel.link log) ms h.channel.held (heard_on h.channel.link less) h.in_step.heard in
       let heard : messages_heard (heard_on l (log ++ less)) ≡ ms ++ messages_heard (h.channel.held ++ heard_on h.channel.link less) =
-      ap (λ (k : LinkNo). messages_heard (heard_on k (log ++ less))) (sym h.link) ∙ ap messages_heard (heard_more h.channel.link log less)
+      ap (λ (k : LinkNo). messages_heard (heard_on k (log ++ less))) (sym h.link) ∙ ap messages_heard (heard-append h.channel.link log less)
       ∙ taken_heard (heard_on h.channel.link log ++ heard_on h.channel.link less) ms (h.channel.held ++ heard_on h.channel.link less) t in
       let a : length (messages_heard (heard_on l (log ++ less))) ≡ length ms + length (messages_heard (h.channel.held ++ heard_on h.channel.link less)) = ap length heard ∙ length-append ms (messages_heard (h.channel.held ++ heard_on h.channel.link less)) in
       let b : length ms ≡ length (T.replies i) + length (got J i) = length-append (T.replies i) (got J i) in
@@ -128,7 +129,7 @@ module _ (T : Setting) where
       right = asked_id old new s id u.stands a opened ∙ numbered
 
       running : IsRunning T.started T.scenario T.replies (reply_in T) new.plan new.entries log (crew_of D)
-      running = elim (bool_or_not (is_here C s.0)) [
+      running = elim (true_or_false (is_here C s.0)) [
         | inl here ↦ let t = kept_so law old.entries s item id C D u.come u.only_within (λ h. right) so here in
             asked_inside T.started T.scenario T.replies (reply_in T) old new log (crew_of C) (crew_of D) s u.stands u.running a t.0
             (subst (λ (c : CoreState). IsSentWithin s.0 (reply_in T s.0 (map bare (sent c.entries s.0))) (crew_of C) (crew_of D)) (sym a.moved) t.1)

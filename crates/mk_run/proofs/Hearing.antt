@@ -20,9 +20,8 @@ use Rattle.mk_plan.specs.Journals.{Arrival, OpenTurn, view, sent, bare}
 use Rattle.mk_plan.specs.Sequential.{takes_id, id_after}
 use Rattle.mk_scenario.specs.declared.parts.Scenario.{Scenario}
 use Rattle.mk_outside.specs.declared.fleet.LogEntry.{LogEntry}
-use Rattle.mk_message.specs.Written.{is_in_range}
 use Rattle.mk_message.proofs.Ranges.{read_in_range}
-use Rattle.mk_sched.specs.Cores.{CoreState, Stands, is_message_in_range}
+use Rattle.mk_sched.specs.Cores.{CoreState, Stands}
 use Rattle.mk_sched.specs.Answers.{IsQuiet, IsAnswered, open_id, with_message}
 use Rattle.mk_local.specs.Replies.{IsItemReplied}
 use Rattle.mk_local.specs.Simulators.{Simulator}
@@ -33,7 +32,7 @@ use Rattle.mk_run_laws.specs.Kinds.{Replies}
 use Rattle.mk_run_laws.specs.Crews.{CrewState, channel_at, kept_of, given_by, IsMovedAt, IsHeard, IsSentWithin}
 use Rattle.mk_run_laws.specs.inner.Running.{awaited, IsRunning, IsRunningWith}
 use Rattle.mk_run_laws.proofs.Saying.{link_there}
-use Rattle.mk_run_laws.proofs.Stepping.{same_is, but, heard, sent_got}
+use Rattle.mk_run_laws.proofs.Stepping.{but, heard, sent_got}
 use Rattle.mk_run_local.specs.Calls.{IsFitSuccess}
 use Rattle.mk_run_local.specs.Laws.{HasCome, RepliesAreKinds}
 use Rattle.mk_run_crew.specs.Seen.{CrewSeen, crew_of, is_here}
@@ -43,17 +42,19 @@ use Rattle.mk_sched.specs.inner.Patient.{IsPatient}
 use Rattle.mk_run.specs.inner.Underway.{Setting, reply_in, Suits, HasNoOther, HaveCome, IsLogRight, IsUnderway, HasHeard, IsAhead}
 use Rattle.mk_run.proofs.LoopSteps.{none_owed, owed_after, answered_opens, answered_id, taken_quietly, taken_on_link, taken_inside}
 use Rattle.mk_run.proofs.Going.{bool_or_not, here_is_within, not_here_is_outside, kept_so, come_sent, only_sent, log_right_on, no_other_after}
-use Rattle.mk_run.proofs.InRange.{same_test, success_in_range}
+use Rattle.mk_run.proofs.InRange.{success_in_range}
 use Rattle.mk_run.proofs.Linked.{linked_outside, within_below, no_other_heard}
 use Rattle.mk_sched.proofs.Pushed.{patient_sent, patient_got, fault_after_sent}
 use Rattle.mk_run.proofs.Pushed.{range_sent, range_got}
 use Rattle.mk_run.proofs.SmallIds.{few_behind, small_next}
+use Rattle.mk_base.proofs.Counts.{same_self}
+use Rattle.mk_plan.specs.Messages.{is_message_in_range}
 
 -- a reply that is kept is awaited of a simulator within the program, at which a request is open
 kept_awaited : (S : Scenario) (reply : Replies) (P : Plan) (J : List Entry) (s : ℕ) (m : Message) (kept more : List Arrival) → kept_of s kept ≡ awaited S reply P J s → kept ≡ record { sim = s; message = m } ∷ more
     → (is_within S s ≡ true) × (is_some ((view P J).open_at s) ≡ true)
 kept_awaited S reply P J s m kept more is front = by_cases (is_within S s) (is_some ((view P J).open_at s)) refl refl
-    (ap (λ (b : Bool). cons_option (if b then Some m else None) (kept_of s more)) (sym (same_is s)) ∙ ap (kept_of s) (sym front) ∙ is)
+    (ap (λ (b : Bool). cons_option (if b then Some m else None) (kept_of s more)) (sym (same_self s)) ∙ ap (kept_of s) (sym front) ∙ is)
   where
     apart : {X : Type 0} {x : X} {xs : List X} → x ∷ xs ≡ [] → ⊥
     apart e = cc
@@ -64,12 +65,12 @@ kept_awaited S reply P J s m kept more is front = by_cases (is_within S s) (is_s
     by_cases false b e f h = absurd (apart h)
 
 -- the one message that was taken off a channel was read from a payload
-pub taken_read : (held : List ℕ) (ms : List Message) (left : List ℕ) (m : Message) → Takes held ms left → ms ≡ m ∷ [] → is_in_range m ≡ true
+pub taken_read : (held : List ℕ) (ms : List Message) (left : List ℕ) (m : Message) → Takes held ms left → ms ≡ m ∷ [] → is_message_in_range m ≡ true
 taken_read held ms left m (Takes.none _) e = absurd (apart e)
   where
     apart : [] ≡ m ∷ [] → ⊥
     apart e = cc
-taken_read held ms left m (Takes.more _ payload rest _ n ns begins read takes) e = subst (λ (x : Message). is_in_range x ≡ true) (same e) (read_in_range payload n read)
+taken_read held ms left m (Takes.more _ payload rest _ n ns begins read takes) e = subst (λ (x : Message). is_message_in_range x ≡ true) (same e) (read_in_range payload n read)
   where
     same : n ∷ ns ≡ m ∷ [] → n ≡ m
     same e = cc
@@ -90,20 +91,20 @@ module _ (T : Setting) (P : Plan) (J : List Entry) (log : List LogEntry) (s : Si
       go (IsHeard.on_link none after w there moved parked) = let t = u.no_other s.0 w there in in_plan (linked_outside T.started T.scenario s.0 t.0 t.1).1
 
   -- its numbers are in range
-  pub heard_fits : is_in_range m ≡ true
+  pub heard_fits : is_message_in_range m ≡ true
   heard_fits = go h.heard
     where
-      by_channel : (o p : Option Channel) (w : Channel) → o ≡ Some w → IsMovedAt h.entries (given_by s.0 m s.0) o p → is_in_range m ≡ true
+      by_channel : (o p : Option Channel) (w : Channel) → o ≡ Some w → IsMovedAt h.entries (given_by s.0 m s.0) o p → is_message_in_range m ≡ true
       by_channel None p w e moved = absurd (none_some e)
       by_channel (Some v) None w e moved = absurd moved
-      by_channel (Some v) (Some x) w e moved = taken_read _ (given_by s.0 m s.0) _ m moved.taken (ap (λ (b : Bool). if b then m ∷ [] else []) (same_is s.0))
+      by_channel (Some v) (Some x) w e moved = taken_read _ (given_by s.0 m s.0) _ m moved.taken (ap (λ (b : Bool). if b then m ∷ [] else []) (same_self s.0))
 
-      go : IsHeard h.entries s.0 m h.crew D → is_in_range m ≡ true
+      go : IsHeard h.entries s.0 m h.crew D → is_message_in_range m ≡ true
       go (IsHeard.kept is channels none) = success_in_range m (h.fit (record { sim = s.0; message = m }) D.kept is)
       go (IsHeard.on_link none after w there moved parked) = by_channel (channel_at h.crew s.0) (channel_at D s.0) w there (moved s.0)
 
   pub heard_in_range : is_message_in_range m ≡ true
-  heard_in_range = same_test m heard_fits
+  heard_in_range = heard_fits
 
   -- that of a simulator within the program is a success
   pub heard_success : is_within T.scenario s.0 ≡ true → IsFitSuccess m

@@ -31,7 +31,3 @@ local_in rows (Some s) fine e = local_by rows s.begin e (fine s refl)
 -- who has a simulator here is within the program
 pub here_within : (rows : List Turn) (S : Scenario) (i : ℕ) (L : Simulator) → first_at rows S i ≡ Some L → is_within S i ≡ true
 here_within rows S i L e = here_in rows (slice_get S.sims i) L e
-
--- and the other way round
-pub within_there : (rows : List Turn) (S : Scenario) → IsPrepared S (map name_of rows) → (i : ℕ) → is_within S i ≡ true → (L : Simulator) × (first_at rows S i ≡ Some L)
-within_there rows S prepared i e = local_in rows (slice_get S.sims i) (λ s there. in_each (CanBegin (map name_of rows)) s S.sims prepared (at_in s S.sims i there)) e

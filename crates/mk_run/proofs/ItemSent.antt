@@ -10,29 +10,26 @@ use Rattle.mk_local.specs.Replies.{item_reply, after_item}
 use Rattle.mk_local.specs.Simulators.{Simulator}
 use Rattle.mk_run_laws.specs.Handshake.{setup_count, is_within}
 use Rattle.mk_run_laws.specs.Crews.{IsSentWithin}
-use Rattle.mk_run_laws.proofs.Stepping.{same_or_not}
 use Rattle.mk_run_local.specs.Laws.{HasCome, RepliesAreKinds}
 use Rattle.mk_run_local.specs.Made.{kind_reply_of}
 use Rattle.mk_run_crew.specs.Seen.{CrewSeen, crew_of, is_here}
 use Rattle.mk_run_crew.specs.Calls.{SendsAs}
 use Rattle.mk_run.specs.inner.Underway.{Setting, reply_in, HasNoOther, HaveComeBy, IsOnlyWithin, local_at}
 use Rattle.mk_run.proofs.Linked.{local_set_here, local_set_away, no_other_same, no_other_sent}
-
-pub bool_or_not : (b : Bool) → (b ≡ true) ⊎ (b ≡ false)
-bool_or_not true = inl refl
-bool_or_not false = inr refl
+use Rattle.mk_base.proofs.Bools.{true_or_false}
+use Rattle.mk_base.proofs.Counts.{same_or_not}
 
 pub some_here : {X : Type 0} (o : Option X) (x : X) → o ≡ Some x → is_some o ≡ true
 some_here o x e = ap (λ (p : Option _). is_some p) e
 
 pub here_is_within : (T : Setting) (sims : List (Option Simulator)) (i : ℕ) → IsOnlyWithin T sims → is_some (local_at sims i) ≡ true → is_within T.scenario i ≡ true
-here_is_within T sims i only here = elim (bool_or_not (is_within T.scenario i)) [
+here_is_within T sims i only here = elim (true_or_false (is_within T.scenario i)) [
   | inl inside ↦ inside
   | inr outside ↦ absurd (true≢false (sym here ∙ ap (λ (o : Option Simulator). is_some o) (only i outside)))
 ]
 
 pub not_here_is_outside : (T : Setting) (X : ℕ → List Item) (sims : List (Option Simulator)) (i : ℕ) → HaveComeBy T X sims → is_some (local_at sims i) ≡ false → is_within T.scenario i ≡ false
-not_here_is_outside T X sims i come away = elim (bool_or_not (is_within T.scenario i)) [
+not_here_is_outside T X sims i come away = elim (true_or_false (is_within T.scenario i)) [
   | inl inside ↦ let t = come i inside in absurd (true≢false (sym (some_here (local_at sims i) t.0 t.1) ∙ away))
   | inr outside ↦ outside
 ]
@@ -96,7 +93,7 @@ module _ (T : Setting) (law : RepliesAreKinds) (X Y : ℕ → List Item) (s : �
     no_other_on_link = no_other_sent T (crew_of C) (crew_of D) s item id (so.on_link away).0
 
   by_place : {Z : Type 0} → (is_here C s ≡ true → Z) → (is_here C s ≡ false → Z) → Z
-  by_place within on_link = elim (bool_or_not (is_here C s)) [ inl here ↦ within here | inr away ↦ on_link away ]
+  by_place within on_link = elim (true_or_false (is_here C s)) [ inl here ↦ within here | inr away ↦ on_link away ]
 
   pub come_sent : HaveComeBy T Y D.sims
   come_sent i within = by_place (λ here. come_within here i within) (λ away. come_on_link away i within)

@@ -12,8 +12,8 @@ use Rattle.mk_local.specs.Simulators.{Simulator}
 use Rattle.mk_run_laws.specs.Handshake.{is_local, has_link, is_within, sim_link}
 use Rattle.mk_run_laws.specs.Channels.{Channel}
 use Rattle.mk_run_laws.specs.Crews.{CrewState, channel_at, IsMovedAt, AreMoved, IsHeard, IsSentOnLink}
-use Rattle.mk_run_laws.proofs.Stepping.{same_or_not}
 use Rattle.mk_run.specs.inner.Underway.{Setting, HasNoOther, local_at}
+use Rattle.mk_base.proofs.Counts.{same_or_not}
 
 -- a simulator with a link is one of the scenario, and isn't within the program
 link_by_kind : (s : SimPart) (k l : LinkNo) (b : Bool) → (if not b then Some k else None) ≡ Some l → b ≡ false

@@ -28,7 +28,7 @@ use Rattle.mk_scenario.specs.declared.parts.Scenario.{Scenario}
 use Rattle.mk_outside.specs.declared.fleet.LogEntry.{LogEntry}
 use Rattle.mk_sched.specs.Cores.{CoreState, Stands}
 use Rattle.mk_sched.specs.Answers.{SomeReady, SomeOpen, IsAsked, IsQuiet, IsAnswered, open_id, id_at, with_message}
-use Rattle.mk_order.proofs.Seen.{reached_sound, same_self, open_after_is}
+use Rattle.mk_order.proofs.Seen.{reached_sound, open_after_is}
 use Rattle.mk_order.proofs.Pushing.{view_push}
 use Rattle.mk_run_laws.specs.Handshake.{setup_count, sim_link, is_within}
 use Rattle.mk_run_laws.specs.Channels.{Channel}
@@ -39,6 +39,7 @@ use Rattle.mk_run_laws.specs.inner.Running.{IsRunningWith, IsRunning, awaited}
 use Rattle.mk_run_laws.proofs.Stepping.{but, heard, asked_on_link, asked_within, heard_quiet, answered_on_link, answered_within, after_message}
 use Rattle.mk_run_laws.proofs.Saying.{link_there}
 use Rattle.mk_run_laws.proofs.Numbering.{HasId, step_id, owed_id}
+use Rattle.mk_base.proofs.Counts.{same_self}
 
 -- a Step is never owed
 next_alone : (P : Plan) (J : List Entry) (s : SimNo) (item : Item) → IsOrderlySoFar IsReady IsAdvance P J → is_step item ≡ true → IsAllowed IsReady IsAdvance P (view P J) (Sent s item) → IsNext IsReady IsAdvance P (view P J) None (Sent s item)

@@ -22,16 +22,13 @@ use Rattle.mk_order_any.specs.Laws.{Laws}
 use Rattle.mk_order_any.proofs.Lists.{true_false}
 use Rattle.mk_order_any.proofs.ActLists.{each_ended}
 use Rattle.mk_order.proofs.Theory.{parts, laws, seq_is}
-use Rattle.mk_order.proofs.Seen.{seen, turn_of, reached, same_self}
+use Rattle.mk_order.proofs.Seen.{seen, turn_of, reached}
 use Rattle.mk_order.proofs.Told.{heard_seen, got_is}
 use Rattle.mk_order.proofs.Agreeing.{goes_on}
 use Rattle.mk_order.proofs.Pushing.{got_push}
 use Rattle.mk_run_laws.proofs.NextHeard.{every, whole_left}
-
--- what is behind the same beginning is the same
-same_behind : {X : Type 0} (xs ys zs : List X) → xs ++ ys ≡ xs ++ zs → ys ≡ zs
-same_behind [] ys zs e = e
-same_behind (x ∷ xs) ys zs e = same_behind xs ys zs (let t : xs ++ ys ≡ xs ++ zs = cc in t)
+use Rattle.mk_base.proofs.Counts.{same_self}
+use Rattle.mk_base.proofs.Items.{same_behind}
 
 module _ (P : Parts) (L : Laws P) where
   open P use {Message, ended, wrong, on}

@@ -11,19 +11,20 @@ use Rattle.mk_plan.specs.declared.Entry.TheVariants.{Sent, Got}
 use Rattle.mk_plan.specs.Journals.{sent, got, sent_to, got_from}
 use Rattle.mk_scenario.specs.declared.parts.Scenario.{Scenario}
 use Rattle.mk_outside.specs.declared.fleet.LogEntry.{LogEntry}
-use Rattle.mk_sched.proofs.Pushed.{heads, last_or_before, not_empty, sent_not_got}
+use Rattle.mk_sched.proofs.Pushed.{last_or_before, sent_not_got}
 use Rattle.mk_run_laws.specs.Kinds.{Replies, KeepsToKinds}
 use Rattle.mk_run_laws.specs.Running.{SetupReplies, RestsEnd}
 use Rattle.mk_run_laws.specs.inner.Running.{RestsOver}
-use Rattle.mk_message.specs.Written.{is_in_range}
 use Rattle.mk_run.specs.Ends.{AreInRange}
+use Rattle.mk_base.proofs.Items.{not_empty, same_heads}
+use Rattle.mk_plan.specs.Messages.{is_message_in_range}
 
 -- two journals that end with these entries are one
 pub same_last : (J H : List Entry) (e d : Entry) → J ++ e ∷ [] ≡ H ++ d ∷ [] → (J ≡ H) × (e ≡ d)
-same_last [] [] e d q = (refl, (heads q).0)
-same_last [] (h ∷ H) e d q = absurd (not_empty H [] d (heads q).1)
-same_last (j ∷ J) [] e d q = absurd (not_empty J [] e (sym (heads q).1))
-same_last (j ∷ J) (h ∷ H) e d q = let t = same_last J H e d (heads q).1 in ((λ i. (heads q).0 i ∷ t.0 i), t.1)
+same_last [] [] e d q = (refl, (same_heads q).0)
+same_last [] (h ∷ H) e d q = absurd (not_empty H [] d (same_heads q).1)
+same_last (j ∷ J) [] e d q = absurd (not_empty J [] e (sym (same_heads q).1))
+same_last (j ∷ J) (h ∷ H) e d q = let t = same_last J H e d (same_heads q).1 in ((λ i. (same_heads q).0 i ∷ t.0 i), t.1)
 
 pub range_sent : (J : List Entry) (s : SimNo) (item : Item) → AreInRange J → AreInRange (J ++ Sent s item ∷ [])
 range_sent J s item fits H t m more q = elim (last_or_before J (Sent s item) H (Got t m) more q) [
@@ -34,9 +35,9 @@ range_sent J s item fits H t m more q = elim (last_or_before J (Sent s item) H (
 pub same_message : (s t : SimNo) (m n : Message) → Got s m ≡ Got t n → m ≡ n
 same_message s t m n e = cc
 
-pub range_got : (J : List Entry) (s : SimNo) (m : Message) → AreInRange J → is_in_range m ≡ true → AreInRange (J ++ Got s m ∷ [])
+pub range_got : (J : List Entry) (s : SimNo) (m : Message) → AreInRange J → is_message_in_range m ≡ true → AreInRange (J ++ Got s m ∷ [])
 range_got J s m fits here H t n more q = elim (last_or_before J (Got s m) H (Got t n) more q) [
-  | inl z ↦ subst (λ (k : Message). is_in_range k ≡ true) (same_message s t m n z.1) here
+  | inl z ↦ subst (λ (k : Message). is_message_in_range k ≡ true) (same_message s t m n z.1) here
   | inr z ↦ fits H t n z.0 z.1
 ]
 

@@ -151,14 +151,6 @@ stopping_by some all T core log C end more e = record {
 
 -- ---- counts
 
-pub risen_on : (a b c : ℕ) → a ≤ b → HasRisen b c → HasRisen a c
-risen_on a b c ab (inl less) = inl (omega (arith, ab, less))
-risen_on a b c ab (inr last) = inr last
-
-pub risen_later : (a b c : ℕ) → b ≤ c → HasRisen a b → HasRisen a c
-risen_later a b c bc (inl less) = inl (omega (arith, bc, less))
-risen_later a b c bc (inr last) = inr (omega (arith, bc, last))
-
 -- ---- the core answered the message
 
 module _ (T : Setting) (core new : CoreState) (log : List LogEntry) (s : SimNo) (m : Message) (C : CrewSeen) (h : IsPast T core log s m C) (a : IsAnswered core s m new) (stands : Stands new.plan new.entries) where

@@ -14,8 +14,10 @@ use Rattle.mk_run.specs.declared.outcome.Outcome.{Outcome}
 use Rattle.mk_run.specs.Ends.{IsRun}
 use Rattle.mk_run.specs.inner.Turns.{AreLinksOpen, GoesOn, IsStopping, TurnsAs}
 use Rattle.mk_run.specs.inner.Underway.{Setting, IsUnderway, exchange_at}
-use Rattle.mk_run.proofs.Turning.{risen_on, risen_later, are_open}
+use Rattle.mk_run.proofs.Turning.{are_open}
 use Rattle.mk_run.proofs.Whole.{whole, whole_replies}
+use Rattle.mk_run_links.proofs.OnStops.{risen_later}
+use Rattle.mk_session.proofs.Polling.{risen_after}
 
 -- the core of a run that has not begun
 abbrev pub new_core : Plan → CoreState
@@ -31,12 +33,12 @@ pub run_whole : (P : Plan) (old core : CoreState) (C D : CrewSeen) (entries stop
     → (core.plan ≡ P) × (r : IsRun (exchange_at T (log ++ (entries ++ stops))) core.plan core.entries before f2 end) × (r.replies ≡ T.replies)
 run_whole P old core C D entries stops f0 f1 f2 end is up later ends stopped restless of_channels T log before low u =
     let stopping : IsStopping (HasRisen f0 f1) T core (log ++ entries) D end = ends T log (subst (λ (k : CoreState). GoesOn T k log C) (sym is) u) in
-    let made = whole T core.plan core.entries (log ++ entries) stops (crew_of D) end before f2 (HasRisen f0 f1) (HasRisen f1 f2) (λ r. risen_on before f0 f2 low (risen_later f0 f1 f2 later r)) (λ r. risen_on before f1 f2 (omega (arith, low, up)) r)
+    let made = whole T core.plan core.entries (log ++ entries) stops (crew_of D) end before f2 (HasRisen f0 f1) (HasRisen f1 f2) (λ r. risen_after before f0 f2 low (risen_later f0 f1 f2 later r)) (λ r. risen_after before f1 f2 (omega (arith, low, up)) r)
     stopping stopped restless of_channels in
     let moved = subst (λ (l : List LogEntry). (r : IsRun (exchange_at T l) core.plan core.entries before f2 end) × (r.replies ≡ T.replies)) (append_assoc log entries stops) (
       made,
       whole_replies T core.plan core.entries (log ++ entries) stops
-          (crew_of D) end before f2 (HasRisen f0 f1) (HasRisen f1 f2) (λ r. risen_on before f0 f2 low (risen_later f0 f1 f2 later r)) (λ r. risen_on before f1 f2 (omega (arith, low, up)) r) stopping stopped restless of_channels,
+          (crew_of D) end before f2 (HasRisen f0 f1) (HasRisen f1 f2) (λ r. risen_after before f0 f2 low (risen_later f0 f1 f2 later r)) (λ r. risen_after before f1 f2 (omega (arith, low, up)) r) stopping stopped restless of_channels,
     ) in
     (stopping.suits.same ∙ sym u.suits.same, moved.0, moved.1)
 

@@ -14,7 +14,7 @@ use Rattle.mk_plan.specs.Ready.{IsDone}
 use Rattle.mk_plan.specs.Orderly.{IsEager}
 use Rattle.mk_plan.specs.Sequential.{id_after}
 use Rattle.mk_frame.specs.Frames.{limit, IsTooLong}
-use Rattle.mk_message.specs.Written.{item_text, is_in_range}
+use Rattle.mk_message.specs.Written.{item_text}
 use Rattle.mk_scenario.specs.declared.parts.Scenario.{Scenario}
 use Rattle.mk_outside.specs.Counts.{HasRisen}
 use Rattle.mk_outside.specs.declared.fleet.LogEntry.{LogEntry}
@@ -34,6 +34,7 @@ use Rattle.mk_run_laws.specs.Laws.{IsJournalOf}
 use Rattle.mk_run_links.specs.Entries.{AreOn, IsRunLink}
 use Rattle.mk_run.specs.declared.outcome.Outcome.{Outcome}
 use Rattle.mk_run.specs.declared.outcome.Outcome.TheVariants as outcome
+use Rattle.mk_plan.specs.Messages.{is_message_in_range}
 
 -- every item of the journal was queued; nothing is said of that where one was too long or memory was
 -- wanting
@@ -152,7 +153,7 @@ SetupRestsWell started S log = (before after : List LogEntry) → log ≡ before
 -- the numbers of each message in the journal may be written
 abbrev pub AreInRange : List Entry → Type 0
 AreInRange J = (H : List Entry) (s : SimNo) (m : Message) (more : List Entry)
-    → J ≡ H ++ Got s m ∷ more → is_in_range m ≡ true
+    → J ≡ H ++ Got s m ∷ more → is_message_in_range m ≡ true
 
 -- a run with a plan and a journal, over the entries that it added to the log: the plan is valid; the
 -- journal is orderly and eager, keeps to the kinds, has at most as many entries as the plan allows,

@@ -32,8 +32,6 @@ use Rattle.mk_run_laws.specs.Handshake.{Request, call_payloads, call_to, calls_t
 use Rattle.mk_run_laws.specs.Hearing.{messages_heard, rest_heard}
 use Rattle.mk_run_laws.specs.Payloads.{IsFramed}
 use Rattle.mk_run_laws.proofs.Clauses.{first_requests}
-use Rattle.mk_run_laws.proofs.Moving.{heard_more}
-use Rattle.mk_run_laws.proofs.Stepping.{apart_is, same_or_not}
 use Rattle.mk_setup.specs.declared.fault.SetupFault.{SetupFault}
 use Rattle.mk_setup.specs.Asking.{after_asking, asked_unless, fault_before, lasting, plan_of, refusal, test_before}
 use Rattle.mk_setup.specs.Handshakes.{IsFaultyAfter, IsReached, IsRefusedAfter, IsStuckAfter, after_answer, answering, begun, next_sim, reached}
@@ -48,6 +46,9 @@ use Rattle.mk_run_crew.specs.Completing.{IsFaultlessHandshake}
 use Rattle.mk_run_crew.specs.Halted.{IsAskedUpTo, IsLongRequest, made_by}
 use Rattle.mk_run_crew.proofs.HeardMore.{heard_later}
 use Rattle.mk_run_crew.proofs.Requests.{both_parts, cut_at, get_pushed}
+use Rattle.mk_base.proofs.Items.{front_get, get_last}
+use Rattle.mk_base.proofs.Counts.{not_same, same_or_not}
+use Rattle.mk_outside.proofs.OnLogs.{heard-append}
 
 -- ---- lists
 
@@ -64,7 +65,7 @@ enumerated_low n p [] h = absurd h
 enumerated_low {X} n p (x ∷ xs) (inl e) = let q : p.0 ≡ n = ap (λ (r : ℕ × X). r.0) e in omega (arith, q)
 enumerated_low n p (x ∷ xs) (inr h) = let t = enumerated_low (n + 1) p xs h in omega (arith, t)
 
-low_request : (S : Scenario) → IsWellformed S → (k : ℕ) (r : Request) → slice_get (setup_requests S) k ≡ Some r → r.sim < length S.sims
+pub low_request : (S : Scenario) → IsWellformed S → (k : ℕ) (r : Request) → slice_get (setup_requests S) k ≡ Some r → r.sim < length S.sims
 low_request S good k r e = elim (in_either r inits_creates dones (at_in r (setup_requests S) k e)) [
   | inl h ↦ elim (in_either r (map init_of (enumerate_from 0 S.sims)) (map create_of S.groups) h) [
     | inl i ↦ let t = in_map init_of r (enumerate_from 0 S.sims) i in subst (λ (q : Request). q.sim < length S.sims) (sym t.2) (numbered t.0 t.1)
@@ -93,7 +94,7 @@ low_request S good k r e = elim (in_either r inits_creates dones (at_in r (setup
 
 -- ---- a kind has one answer to a request
 
-one_answer : (rows : List Turn) (S : Scenario) (k : ℕ) (r : Request) (m n : Message) → IsKindAnswer rows S k r m → IsKindAnswer rows S k r n → m ≡ n
+pub one_answer : (rows : List Turn) (S : Scenario) (k : ℕ) (r : Request) (m n : Message) → IsKindAnswer rows S k r m → IsKindAnswer rows S k r n → m ≡ n
 one_answer rows S k r m n a b =
     let same : a.sim ≡ b.sim = some_same (sym a.before ∙ b.before) in
     some_same (sym a.reply ∙ ap (λ (L : Simulator). call_reply L (id_before S k r.sim) r.call) same ∙ b.reply)
@@ -157,18 +158,8 @@ answers_count i (q ∷ requests) (a ∷ answers) few =
       | false ↦ answers_count i requests answers (omega (arith, few))
     ]
 
--- what stands in the beginning of a list stands there in the list
-get_front : {X : Type 0} (xs ys : List X) (k : ℕ) (x : X) → slice_get xs k ≡ Some x → slice_get (xs ++ ys) k ≡ Some x
-get_front [] ys k x e = absurd (none_some e)
-get_front (y ∷ xs) ys zero x e = e
-get_front (y ∷ xs) ys (suc k) x e = get_front xs ys k x e
-
 in_beginning : {X : Type 0} (whole part : List X) (k : ℕ) (x : X) → BeginsWith whole part → slice_get part k ≡ Some x → slice_get whole k ≡ Some x
-in_beginning whole part k x t there = ap (λ l. slice_get l k) t.1 ∙ get_front part t.0 k x there
-
-get_last : {X : Type 0} (xs : List X) (x : X) → slice_get (xs ++ x ∷ []) (length xs) ≡ Some x
-get_last [] x = refl
-get_last (y ∷ xs) x = get_last xs x
+in_beginning whole part k x t there = ap (λ l. slice_get l k) t.1 ∙ front_get part t.0 k x there
 
 -- a simulator of the scenario runs within the program or has a link
 linked_or_within : (started : ℕ) (S : Scenario) (i : ℕ) → i < length S.sims → (is_within S i ≡ true) ⊎ ((l : LinkNo) × (sim_link started S i ≡ Some l))
@@ -220,7 +211,7 @@ module _ (A : Attempt) (w : IsAnswered A) (laws : RepliesMake) (good : IsWellfor
       let t = answered k r asked in
       let p : ℕ = length (filter_map (call_to r.sim) (take k (setup_requests A.scenario))) in
       let later : BeginsWith (messages_heard (heard_on l A.log)) (messages_heard (heard_on l before)) =
-      subst (λ (bytes : List ℕ). BeginsWith (messages_heard bytes) (messages_heard (heard_on l before))) (sym (ap (heard_on l) parts ∙ heard_more l before after)) (heard_later (heard_on l before) (heard_on l after)) in
+      subst (λ (bytes : List ℕ). BeginsWith (messages_heard bytes) (messages_heard (heard_on l before))) (sym (ap (heard_on l) parts ∙ heard-append l before after)) (heard_later (heard_on l before) (heard_on l after)) in
       let ours = in_beginning (messages_heard (heard_on l A.log)) (answers_to r.sim (setup_requests A.scenario) w.answers) p t.0 (w.links r.sim l linked).heard (at_place (setup_requests A.scenario) w.answers k r t.0 asked t.1) in
       let theirs = in_beginning (messages_heard (heard_on l A.log)) (messages_heard (heard_on l before)) p m later heard in
       t.1 ∙ sym ours ∙ theirs
@@ -231,9 +222,9 @@ module _ (A : Attempt) (w : IsAnswered A) (laws : RepliesMake) (good : IsWellfor
   heard_known given last before after parts heard asked k m got =
       let r = asked k m got in
       elim (linked_or_within A.started A.scenario (r.0).sim (low_request A.scenario good k r.0 r.1)) [
-        | inl within ↦ of_kind k r.0 m r.1 within (heard.kinds k r.0 m r.1 (get_front given _ k m got) within)
+        | inl within ↦ of_kind k r.0 m r.1 within (heard.kinds k r.0 m r.1 (front_get given _ k m got) within)
         | inr t ↦ of_link k r.0 m t.0 before after parts r.1 t.1
-            (in_beginning (messages_heard (heard_on t.0 before)) (answers_to (r.0).sim (setup_requests A.scenario) given ++ kept_of (r.0).sim (option_to_list last)) _ m (heard.links (r.0).sim t.0 t.1) (get_front (answers_to (r.0).sim (setup_requests A.scenario) given) (kept_of (r.0).sim (option_to_list last)) (length (filter_map (call_to (r.0).sim) (take k (setup_requests A.scenario)))) m
+            (in_beginning (messages_heard (heard_on t.0 before)) (answers_to (r.0).sim (setup_requests A.scenario) given ++ kept_of (r.0).sim (option_to_list last)) _ m (heard.links (r.0).sim t.0 t.1) (front_get (answers_to (r.0).sim (setup_requests A.scenario) given) (kept_of (r.0).sim (option_to_list last)) (length (filter_map (call_to (r.0).sim) (take k (setup_requests A.scenario)))) m
             (at_place (setup_requests A.scenario) given k r.0 m r.1 got)))
       ]
 
@@ -295,7 +286,7 @@ module _ (A : Attempt) (w : IsAnswered A) (laws : RepliesMake) (good : IsWellfor
 
         same_calls : filter_map (call_to a.sim) (take (suc (length given)) (setup_requests A.scenario)) ≡ calls
         same_calls = ap (filter_map (call_to a.sim)) (cut_at (length given) came.request (setup_requests A.scenario) came.awaiting).0 ∙ filter_map_append (call_to a.sim) (take (length given) (setup_requests A.scenario)) (came.request ∷ [])
-            ∙ ap (λ (b : Bool). calls ++ cons_option (if b then Some (came.request).call else None) []) (apart_is (came.request).sim a.sim (λ e. apart (sym e))) ∙ append_nil calls
+            ∙ ap (λ (b : Bool). calls ++ cons_option (if b then Some (came.request).call else None) []) (not_same (came.request).sim a.sim (λ e. apart (sym e))) ∙ append_nil calls
 
         on_link : (l : LinkNo) → sim_link A.started A.scenario a.sim ≡ Some l → ⊥
         on_link l linked =

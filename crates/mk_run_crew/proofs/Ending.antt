@@ -29,7 +29,7 @@ use Rattle.mk_run_laws.specs.inner.Running.{IsBetween}
 use Rattle.mk_run_laws.proofs.Clauses.{handshake_says}
 use Rattle.mk_run_laws.proofs.Greeting.{greeted}
 use Rattle.mk_run_laws.proofs.Moving.{heard_at_stop}
-use Rattle.mk_run_laws.proofs.Stepping.{first_or_second, not_empty}
+use Rattle.mk_run_laws.proofs.Stepping.{first_or_second}
 use Rattle.mk_setup.specs.Handshakes.{IsMade}
 use Rattle.mk_run_links.specs.Entries.{AreOn, IsRunLink}
 use Rattle.mk_run_links.specs.Places.{IsChannelLink, at, crew}
@@ -42,9 +42,10 @@ use Rattle.mk_run_crew.specs.inner.Asking.{IsAnswered, IsHalting}
 use Rattle.mk_run_crew.specs.Begun.{HasBegun}
 use Rattle.mk_run_crew.specs.Halted.{HasHalted, ShowsCause}
 use Rattle.mk_run_crew.specs.Seen.{CrewSeen, crew_of}
-use Rattle.mk_run_crew.proofs.Requests.{all_taken, none_dropped}
+use Rattle.mk_run_crew.proofs.Requests.{none_dropped}
 use Rattle.mk_run_crew.proofs.Simulators.{linked_away}
 use Rattle.mk_run_crew.proofs.Stopped.{all_said}
+use Rattle.mk_base.proofs.Items.{not_empty, take_all}
 
 module _ (started : ℕ) (S : Scenario) (ranks : List ℕ) (rows : List Turn) where
   -- ---- a crew that has begun
@@ -73,7 +74,7 @@ module _ (started : ℕ) (S : Scenario) (ranks : List ℕ) (rows : List Turn) wh
   }
     where
       whole : take (length answers) (setup_requests S) ≡ setup_requests S
-      whole = ap (λ (n : ℕ). take n (setup_requests S)) m.all ∙ all_taken (setup_requests S)
+      whole = ap (λ (n : ℕ). take n (setup_requests S)) m.all ∙ take_all (setup_requests S)
 
       over : IsBetween started S a.replies log (crew C.channels) (setup_requests S) []
       over = subst (λ (rs : List Request). IsBetween started S a.replies log (crew C.channels) rs []) whole

@@ -16,7 +16,6 @@ use Rattle.mk_run_laws.specs.Handshake.{Request, setup_requests, call_to, sim_li
 use Rattle.mk_run_laws.specs.Running.{SetupReplies}
 use Rattle.mk_run_laws.specs.inner.Running.{IsBetween, IsSettingUp}
 use Rattle.mk_run_laws.proofs.Greeting.{fresh, requested, requested_within, replied}
-use Rattle.mk_run_laws.proofs.Stepping.{same_or_not, apart_is}
 use Rattle.mk_run_laws.proofs.Moving.{moved_back}
 use Rattle.mk_setup.specs.Requests.{id_before}
 use Rattle.mk_run_links.specs.Entries.{AreOn, IsRunLink}
@@ -28,9 +27,11 @@ use Rattle.mk_run_local.specs.Seen.{WithinState, AreOf, first_of, new_within, si
 use Rattle.mk_run_crew.specs.Answers.{answers_to, sim_after}
 use Rattle.mk_run_crew.specs.inner.Asking.{AsksWithin, AsksOnLink, IsAnswered, IsNewCrew}
 use Rattle.mk_run_crew.specs.Seen.{CrewSeen, within_of}
-use Rattle.mk_run_crew.proofs.Placing.{new_at, set_back, set_there}
+use Rattle.mk_run_crew.proofs.Placing.{new_at, set_there}
 use Rattle.mk_run_crew.proofs.Requests.{answers_none, answers_pushed, after_one_more, after_other, count_pushed, cut_at, kinds_pushed, still_none}
 use Rattle.mk_run_crew.proofs.Simulators.{link_placed, linked_away, placed_link, within_away}
+use Rattle.mk_base.proofs.Counts.{not_same, same_or_not}
+use Rattle.mk_run_links.proofs.Standing.{set_back}
 
 -- ---- before the first request
 
@@ -101,7 +102,7 @@ module _ (started : ℕ) (S : Scenario) (rows : List Turn) where
         (subst (λ (x : List LogEntry). IsBetween started S so_far.replies x (crew C.channels) done (drop (suc (length answers)) (setup_requests S))) (sym (ap (λ (x : List LogEntry). log ++ x) a.quiet ∙ append_nil log))
         (requested_within started S so_far.replies log (crew C.channels) (take (length answers) (setup_requests S)) r (drop (suc (length answers)) (setup_requests S)) (next_between so_far.replies log (crew C.channels) (length answers) r asked so_far.between) unlinked)));
     told = λ i l e. so_far.told i l e ∙ sym (append_nil (answers_to i (setup_requests S) answers))
-        ∙ ap (λ (ms : List Message). answers_to i (setup_requests S) answers ++ ms) (sym (ap (λ (b : Bool). if b then m ∷ [] else []) (apart_is r.sim i (λ q. none_some (sym unlinked ∙ ap (sim_link started S) q ∙ e)))))
+        ∙ ap (λ (ms : List Message). answers_to i (setup_requests S) answers ++ ms) (sym (ap (λ (b : Bool). if b then m ∷ [] else []) (not_same r.sim i (λ q. none_some (sym unlinked ∙ ap (sim_link started S) q ∙ e)))))
         ∙ sym (answers_pushed i (setup_requests S) answers r m asked);
     kinds = kinds_pushed rows S answers r m so_far.kinds asked (λ w. record { sim = (a.called).sim; before = before_it; reply = subst (λ (n : ℕ). call_reply (a.called).sim n r.call ≡ Some m) numbered (a.called).reply });
     sims = λ i. come i (same_or_not i r.sim);

@@ -41,9 +41,9 @@ use Rattle.mk_run_crew.specs.Calls.{halt_of}
 use Rattle.mk_run_crew.specs.Halted.{IsAskedUpTo, IsSetupFault, ShowsCause, count_to}
 use Rattle.mk_run_crew.specs.Seen.{CrewSeen, is_here}
 use Rattle.mk_run_crew.proofs.Going.{asked_on, heard_moved, heard_there, set_up_so, within_more, within_so}
-use Rattle.mk_run_crew.proofs.Placing.{set_back}
 use Rattle.mk_run_crew.proofs.Requests.{answers_pushed, count_pushed, cut_at, kinds_pushed}
 use Rattle.mk_run_crew.proofs.Simulators.{linked_away}
+use Rattle.mk_run_links.proofs.Standing.{set_back}
 
 -- ---- a channel's messages are the first that were heard
 
@@ -59,7 +59,7 @@ here_is : (b : Bool) (x e : LogEntry) → (if b then Some x else None) ≡ Some 
 here_is true x e q = sym (some_same q)
 here_is false x e q = absurd (none_some q)
 
-last_in : (test : LogEntry → Bool) (xs : List LogEntry) (e : LogEntry) → last_that test xs ≡ Some e → IsIn e xs
+pub last_in : (test : LogEntry → Bool) (xs : List LogEntry) (e : LogEntry) → last_that test xs ≡ Some e → IsIn e xs
 last_in test [] e is = absurd (none_some is)
 last_in test (x ∷ xs) e is = elim (last_that test xs) as (λ o. last_that test xs ≡ o → later_of (if test x then Some x else None) o ≡ Some e → IsIn e (x ∷ xs)) [
   | None ↦ λ q r. inl (here_is (test x) x e r)

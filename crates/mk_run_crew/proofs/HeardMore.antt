@@ -9,7 +9,7 @@ use Rattle.mk_plan.specs.declared.Message.{Message}
 use Rattle.mk_message.specs.Messages.{message_of}
 use Rattle.mk_frame.specs.Frames.{limit}
 use Rattle.mk_run_laws.specs.Hearing.{announced, cut, first_frame, first_message, messages_heard, value_in}
-use Rattle.mk_run_laws.proofs.Taking.{enough, message_shorter}
+use Rattle.mk_run_laws.proofs.Taking.{enough, message_shorter, then_cut}
 
 -- a first frame stays the first
 frame_on : (held later : List ℕ) (f : List ℕ × List ℕ) → first_frame held ≡ Some f → first_frame (held ++ later) ≡ Some (f.0, f.1 ++ later)
@@ -51,9 +51,6 @@ message_on held later f e = go (first_frame held) refl e
     go : (o : Option (List ℕ × List ℕ)) → first_frame held ≡ o → option_and_then (λ (f : List ℕ × List ℕ). option_map (λ (m : Message). let p : Message × List ℕ = (m, f.1) in p) (value_in (message_of f.0))) o ≡ Some f → first_message (held ++ later) ≡ Some (f.0, f.1 ++ later)
     go None is q = absurd (none_some q)
     go (Some g) is q = let first : first_frame (held ++ later) ≡ Some (g.0, g.1 ++ later) = frame_on held later g is in rw first (inner g (value_in (message_of g.0)) q)
-
-abbrev then_cut : ℕ → List ℕ → Option (Message × List ℕ) → List Message × List ℕ
-then_cut n held o = elim o [ None ↦ ([], held) | Some f ↦ (f.0 ∷ (cut n f.1).0, (cut n f.1).1) ]
 
 cut_on : (n : ℕ) (held later : List ℕ) → length (held ++ later) ≤ n → BeginsWith (cut n (held ++ later)).0 (cut n held).0
 cut_on zero held later h = ([], refl)

@@ -1,12 +1,12 @@
 -- The lemmas of mk_run_crew, by their files.
-mod Answered
+pub mod Answered
 mod Asked
 mod Completing
 mod Composing
 mod Ending
 mod Faultless
 mod Going
-mod Halting
+pub mod Halting
 mod HeardMore
 mod Looping
 mod Placing

@@ -12,10 +12,14 @@ use Rattle.mk_plan.specs.declared.Message.{Message}
 use Rattle.mk_launch.specs.Starts.{links_in}
 use Rattle.mk_run_laws.specs.Channels.{Channel}
 use Rattle.mk_run_laws.specs.Crews.{CrewState, AreMoved, AreStopped}
-use Rattle.mk_run_laws.proofs.Stepping.{same_or_not}
 use Rattle.mk_run_laws.proofs.Moving.{moved_there, moved_back}
 use Rattle.mk_run_links.specs.Places.{AreDistinct, AreOpen, IsSet, Channels, at, crew, new_channel, new_channels}
 use Rattle.mk_run_crew.specs.inner.Placed.{IsPlaced}
+use Rattle.mk_base.proofs.Items.{get_map, only_one}
+use Rattle.mk_base.proofs.Counts.{same_or_not}
+use Rattle.mk_session.proofs.Polling.{risen_after}
+use Rattle.mk_run_links.proofs.OnStops.{risen_later}
+use Rattle.mk_run_links.proofs.Standing.{set_back}
 
 -- ---- channels that move
 
@@ -24,12 +28,6 @@ pub set_there : (s : ℕ) (w v : Channel) (L M : Channels) → IsSet s w v L M �
 set_there s w v L M set same i u e = elim (same_or_not i s) [
   | inl q ↦ (v, ap (at M) q ∙ set.here, same ∙ ap (λ (x : Channel). x.link) (some_same (sym set.there ∙ ap (at L) (sym q) ∙ e)))
   | inr apart ↦ (u, set.others i apart ∙ e, refl)
-]
-
-pub set_back : (s : ℕ) (w v : Channel) (L M : Channels) → IsSet s w v L M → v.link ≡ w.link → (i : ℕ) (u : Channel) → at M i ≡ Some u → (x : Channel) × (at L i ≡ Some x) × (u.link ≡ x.link)
-set_back s w v L M set same i u e = elim (same_or_not i s) [
-  | inl q ↦ (w, ap (at L) q ∙ set.there, ap (λ (x : Channel). x.link) (some_same (sym e ∙ ap (at M) q ∙ set.here)) ∙ same)
-  | inr apart ↦ (u, sym (set.others i apart) ∙ e, refl)
 ]
 
 -- ---- the places stay
@@ -55,25 +53,15 @@ pub open_moved : (entries : List LogEntry) (given : ℕ → List Message) (L M :
 open_moved entries given L M open_links moved all i u e =
     let b = moved_back entries (given i) (at L i) (at M i) u e (moved i) in subst (λ (k : LinkNo). IsIn k open_links) (sym b.2) (all i b.0 b.1)
 
-only : (l : LinkNo) (o : Option LinkNo) → IsIn l (option_to_list o) → o ≡ Some l
-only l None h = absurd h
-only l (Some m) (inl e) = ap Some (sym e)
-only l (Some m) (inr h) = absurd h
-
 -- the links that have a place are open where the channels' are
 pub places_open : (places : List (Option LinkNo)) (L : Channels) (open_links : List LinkNo) → IsPlaced places L → AreOpen L open_links → Each (λ (link : LinkNo). IsIn link open_links) (links_in places)
 places_open places L open_links p all = each_in (λ (link : LinkNo). IsIn link open_links) (links_in places) (λ l there.
     let o = in_flat_map option_to_list l places there in
     let i = in_at o.0 places o.1 in
-    let w = p.channel i.0 l (i.1 ∙ ap Some (only l o.0 o.2)) in
+    let w = p.channel i.0 l (i.1 ∙ ap Some (only_one l o.0 o.2)) in
     subst (λ (k : LinkNo). IsIn k open_links) w.2 (all i.0 w.0 w.1))
 
 -- ---- channels that begin
-
-get_map : {X Y : Type 0} (f : X → Y) (xs : List X) (i : ℕ) → slice_get (map f xs) i ≡ option_map f (slice_get xs i)
-get_map f [] i = refl
-get_map f (x ∷ xs) zero = refl
-get_map f (x ∷ xs) (suc i) = get_map f xs i
 
 pub new_at : (links : List (Option LinkNo)) (i : ℕ) (l : LinkNo) → slice_get links i ≡ Some (Some l) → at (new_channels links) i ≡ Some (new_channel l)
 new_at links i l e = ap (option_and_then (λ (o : Option Channel). o)) (get_map (option_map new_channel) links i ∙ ap (option_map (option_map new_channel)) e)
@@ -83,14 +71,6 @@ new_placed links distinct = record { distinct = distinct; channel = λ i l e. (n
 
 -- ---- a count that rises
 
-pub risen_later : (a b c : ℕ) → b ≤ c → HasRisen a b → HasRisen a c
-risen_later a b c less (inl h) = inl (omega (arith, less, h))
-risen_later a b c less (inr h) = inr (omega (arith, less, h))
-
-pub risen_on : (a b c : ℕ) → a ≤ b → HasRisen b c → HasRisen a c
-risen_on a b c less (inl h) = inl (omega (arith, less, h))
-risen_on a b c less (inr h) = inr h
-
 pub stopped_later : (entries : List LogEntry) (a b c : ℕ) (C : CrewState) → b ≤ c → AreStopped entries (HasRisen a b) C → AreStopped entries (HasRisen a c) C
 stopped_later entries a b c C less all i w there =
     let s = all i w there in
@@ -99,7 +79,7 @@ stopped_later entries a b c C less all i w there =
 pub stopped_on : (entries : List LogEntry) (a b c : ℕ) (C : CrewState) → a ≤ b → AreStopped entries (HasRisen b c) C → AreStopped entries (HasRisen a c) C
 stopped_on entries a b c C less all i w there =
     let s = all i w there in
-    record { unheard = s.unheard; said = s.said; framed = s.framed; whole = elim s.whole [ inl e ↦ inl e | inr m ↦ inr (elim m [ inl e ↦ inl e | inr h ↦ inr (risen_on a b c less h) ]) ] }
+    record { unheard = s.unheard; said = s.said; framed = s.framed; whole = elim s.whole [ inl e ↦ inl e | inr m ↦ inr (elim m [ inl e ↦ inl e | inr h ↦ inr (risen_after a b c less h) ]) ] }
 
 -- ---- entries of a call that adds none behind
 

@@ -14,9 +14,10 @@ use Rattle.mk_local.specs.declared.turn.Turn.{Turn}
 use Rattle.mk_local.specs.Calls.{after_call, IsCallReplied}
 use Rattle.mk_local.specs.Simulators.{Simulator}
 use Rattle.mk_run_laws.specs.Handshake.{Request, setup_requests, call_to, is_within}
-use Rattle.mk_run_laws.proofs.Stepping.{same_is, apart_is}
 use Rattle.mk_run_local.specs.Made.{first_at}
 use Rattle.mk_run_crew.specs.Answers.{answers_to, sim_after, IsKindAnswer, AreKindAnswers}
+use Rattle.mk_base.proofs.Counts.{not_same, same_self}
+use Rattle.mk_run_laws.proofs.Greeting.{one_here, one_away}
 
 -- ---- lists
 
@@ -30,10 +31,6 @@ pub both_parts : {X : Type 0} (k : ℕ) (xs : List X) → take k xs ++ drop k xs
 both_parts zero xs = refl
 both_parts (suc k) [] = refl
 both_parts {X} (suc k) (x ∷ xs) = ap (λ (l : List X). x ∷ l) (both_parts k xs)
-
-pub all_taken : {X : Type 0} (xs : List X) → take (length xs) xs ≡ xs
-all_taken [] = refl
-all_taken {X} (x ∷ xs) = ap (λ (l : List X). x ∷ l) (all_taken xs)
 
 pub none_dropped : {X : Type 0} (xs : List X) → drop (length xs) xs ≡ []
 none_dropped [] = refl
@@ -129,12 +126,6 @@ kinds_pushed rows S answers r m all there now k q n asked got within = elim (get
 ]
 
 -- ---- simulators within the program
-
-one_here : (r : Request) → filter_map (call_to r.sim) (r ∷ []) ≡ r.call ∷ []
-one_here r = ap (λ (b : Bool). cons_option (if b then Some r.call else None) []) (same_is r.sim)
-
-one_away : (r : Request) (i : ℕ) → (i ≡ r.sim → ⊥) → filter_map (call_to i) (r ∷ []) ≡ []
-one_away r i apart = ap (λ (b : Bool). cons_option (if b then Some r.call else None) []) (apart_is r.sim i (λ e. apart (sym e)))
 
 calls_here : (k : ℕ) (r : Request) (requests : List Request) → slice_get requests k ≡ Some r → filter_map (call_to r.sim) (take (suc k) requests) ≡ filter_map (call_to r.sim) (take k requests) ++ r.call ∷ []
 calls_here k r requests e =

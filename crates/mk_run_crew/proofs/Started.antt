@@ -15,6 +15,7 @@ use Rattle.mk_run_crew.specs.declared.halt.Halt.{Halt}
 use Rattle.mk_run_crew.specs.declared.halt.Halt.TheVariants as halt
 use Rattle.mk_run_crew.specs.Started.{IsOfStart, StartsLinks}
 use Rattle.mk_run_crew.specs.Wholly.{is_wholly_within}
+use Rattle.mk_base.proofs.Bools.{first_holds, second_holds}
 
 one_at_most : (n : ℕ) (b : Begin) → link_count (place_of n b) ≤ 1
 one_at_most n (Command t) = let e : 1 ≤ 1 = omega arith in e
@@ -49,18 +50,10 @@ all_started S old new put fewer is count =
       all = λ none. count ∙ ap (λ (n : ℕ). old + n) (ap (λ (ps : List (Option LinkNo)). length (links_in ps)) is ∙ links_total old S.sims);
     }
 
-first_true : (a b : Bool) → (a && b) ≡ true → a ≡ true
-first_true true b e = refl
-first_true false b e = e
-
-rest_true : (a b : Bool) → (a && b) ≡ true → b ≡ true
-rest_true true b e = e
-rest_true false b e = absurd (true≢false (sym e))
-
 linkless_total : (sims : List SimPart) → list_all (λ (s : SimPart). is_local s.begin) sims ≡ true → length (filter has_link sims) ≡ 0
 linkless_total [] all = refl
-linkless_total (s ∷ sims) all = ap (λ (b : Bool). length (cond (not b) (s ∷ filter has_link sims) (filter has_link sims))) (first_true (is_local s.begin) (list_all (λ (t : SimPart). is_local t.begin) sims) all)
-    ∙ linkless_total sims (rest_true (is_local s.begin) (list_all (λ (t : SimPart). is_local t.begin) sims) all)
+linkless_total (s ∷ sims) all = ap (λ (b : Bool). length (cond (not b) (s ∷ filter has_link sims) (filter has_link sims))) (first_holds (is_local s.begin) (list_all (λ (t : SimPart). is_local t.begin) sims) all)
+    ∙ linkless_total sims (second_holds (is_local s.begin) (list_all (λ (t : SimPart). is_local t.begin) sims) all)
 
 -- none is to be started
 pub none_started : (S : Scenario) (old : ℕ) (fewer : Type 0) → is_wholly_within S ≡ true → StartsLinks S old old fewer

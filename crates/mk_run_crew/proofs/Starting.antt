@@ -6,17 +6,17 @@ use Rattle.mk_base.specs.declared.LinkNo.{LinkNo}
 use Rattle.mk_base.specs.Lists.{IsIn, Each}
 use Rattle.mk_base.proofs.Lists.{each_in, in_back, in_each, in_at, in_flat_map, filter_in, filter_append, none_some, some_passes, some_same, filter_none, append_nil}
 use Rattle.mk_base.specs.Links.{same_link, without}
-use Rattle.mk_outside.proofs.OnLogs.{each-append}
 use Rattle.mk_scenario.specs.declared.parts.SimPart.{SimPart}
 use Rattle.mk_launch.specs.declared.faults.StartFault.{StartFault}
 use Rattle.mk_launch.specs.declared.faults.StartFault.TheVariants.{Failed, Mem}
 use Rattle.mk_launch.specs.Starts.{AllStarted, AreNumbered, Links, link_count, link_of, links_in, place_of, places}
 use Rattle.mk_launch.proofs.Placing.{higher, numbered, without_lower}
-use Rattle.mk_run_laws.proofs.Stepping.{same_or_not, same_is, apart_is}
 use Rattle.mk_run_links.specs.Places.{without_all}
 use Rattle.mk_run_links.proofs.Beginning.{next_place}
 use Rattle.mk_run_crew.specs.declared.halt.Halt.TheVariants as halt
 use Rattle.mk_run_crew.specs.inner.Calls.{start_halt}
+use Rattle.mk_base.proofs.Items.{only_one, each_append}
+use Rattle.mk_base.proofs.Counts.{not_same, same_or_not, same_self}
 
 -- ---- numbers of links
 
@@ -26,19 +26,14 @@ low n [] l i e less = none_some e
 low n (s ∷ sims) l zero e less = let t = next_place n s.begin l (some_same e) in omega (arith, t.0, less)
 low n (s ∷ sims) l (suc i) e less = low (n + link_count (place_of n s.begin)) sims l i e (omega (arith, less))
 
-only : (l : LinkNo) (o : Option LinkNo) → IsIn l (option_to_list o) → o ≡ Some l
-only l None h = absurd h
-only l (Some m) (inl e) = ap Some (sym e)
-only l (Some m) (inr h) = absurd h
-
 not_low : (n : ℕ) (sims : List SimPart) (l : LinkNo) → IsIn l (links_in (places n sims)) → l.0 < n → ⊥
 not_low n sims l there less =
     let o = in_flat_map option_to_list l (places n sims) there in
     let i = in_at o.0 (places n sims) o.1 in
-    low n sims l i.0 (i.1 ∙ ap Some (only l o.0 o.2)) less
+    low n sims l i.0 (i.1 ∙ ap Some (only_one l o.0 o.2)) less
 
 same_number : (l m : LinkNo) → same_link l m ≡ true → l.0 ≡ m.0
-same_number l m e = elim (same_or_not l.0 m.0) [ inl q ↦ q | inr apart ↦ absurd (true≢false (sym e ∙ apart_is l.0 m.0 apart)) ]
+same_number l m e = elim (same_or_not l.0 m.0) [ inl q ↦ q | inr apart ↦ absurd (true≢false (sym e ∙ not_same l.0 m.0 apart)) ]
 
 -- ---- closing them leaves what was open before
 
@@ -47,13 +42,13 @@ keep_old others [] apart = refl
 keep_old others (x ∷ old) apart = ap (λ (b : Bool). cond (not b) (x ∷ without_all others old) (without_all others old)) (apart x (inl refl)) ∙ ap (λ (xs : List LinkNo). x ∷ xs) (keep_old others old (λ l there. apart l (inr there)))
 
 list_any_here : (others : List LinkNo) (l : LinkNo) → IsIn l others → list_any (same_link l) others ≡ true
-list_any_here (x ∷ others) l (inl e) = subst (λ (y : LinkNo). (same_link l y || list_any (same_link l) others) ≡ true) e (ap (λ (b : Bool). b || list_any (same_link l) others) (same_self l))
+list_any_here (x ∷ others) l (inl e) = subst (λ (y : LinkNo). (same_link l y || list_any (same_link l) others) ≡ true) e (ap (λ (b : Bool). b || list_any (same_link l) others) (link_itself l))
   where
-    same_self : (m : LinkNo) → same_link m m ≡ true
-    same_self m = elim (same_link m m) as (λ b. same_link m m ≡ b → b ≡ true) [ true ↦ λ q. refl | false ↦ λ q. absurd (same_not m q) ] refl
+    link_itself : (m : LinkNo) → same_link m m ≡ true
+    link_itself m = elim (same_link m m) as (λ b. same_link m m ≡ b → b ≡ true) [ true ↦ λ q. refl | false ↦ λ q. absurd (same_not m q) ] refl
       where
         same_not : (m : LinkNo) → same_link m m ≡ false → ⊥
-        same_not m q = true≢false (sym (same_is m.0) ∙ q)
+        same_not m q = true≢false (sym (same_self m.0) ∙ q)
 list_any_here (x ∷ others) l (inr h) = ap (λ (b : Bool). same_link l x || b) (list_any_here others l h) ∙ or_true (same_link l x)
   where
     or_true : (b : Bool) → (b || true) ≡ true
@@ -103,13 +98,13 @@ others_open n sims put old new_links is left =
     let last = link_of (n + length (links_in put)) in
     each_in (λ (link : LinkNo). IsIn link new_links) (links_in put) (λ l there.
     let below = in_each (λ (link : LinkNo). link.0 < n + length (links_in put)) l (links_in put) (placed_below n sims put is) there in
-    subst (IsIn l) (sym left) (filter_in (λ (other : LinkNo). not (same_link other last)) l (old ++ links_in put) (in_back l old (links_in put) there) (ap not (apart_is l.0 last.0 (λ (same : l.0 ≡ last.0). omega (arith, below, same))))))
+    subst (IsIn l) (sym left) (filter_in (λ (other : LinkNo). not (same_link other last)) l (old ++ links_in put) (in_back l old (links_in put) there) (ap not (not_same l.0 last.0 (λ (same : l.0 ≡ last.0). omega (arith, below, same))))))
 
 -- and those from before too, where they are numbered
 all_stay : (n : ℕ) (sims : List SimPart) (put : List (Option LinkNo)) (old : List LinkNo) → put ≡ places n sims → AreNumbered n old → without (link_of (n + length (links_in put))) (old ++ links_in put) ≡ old ++ links_in put
 all_stay n sims put old is low_ones =
     without_lower (link_of (n + length (links_in put))) (old ++ links_in put)
-    (each-append (λ (link : LinkNo). link.0 < n + length (links_in put)) old (links_in put) (higher n (n + length (links_in put)) (omega arith) old low_ones) (placed_below n sims put is))
+    (each_append (λ (link : LinkNo). link.0 < n + length (links_in put)) old (links_in put) (higher n (n + length (links_in put)) (omega arith) old low_ones) (placed_below n sims put is))
 
 pub leaves : (fault : StartFault) (sims : List SimPart) (old new : Links) (put : List (Option LinkNo)) → AllStarted (Err fault) sims old new put → Leaves sims old new put
 leaves (Failed sim) sims old new put all = record { first = take sim.0 sims; places = (all.1).places; links = λ low_ones. (all.1).links; open_ones = put_open put old.links new.links (all.1).links }

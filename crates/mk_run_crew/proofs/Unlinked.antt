@@ -25,7 +25,6 @@ use Rattle.mk_local.specs.Calls.{IsCallReplied}
 use Rattle.mk_local.specs.Kinds.{name_of}
 use Rattle.mk_run_laws.specs.Crews.{AreStopped, IsRestless}
 use Rattle.mk_run_laws.specs.Handshake.{has_link, is_local, is_within, setup_requests, sim_link}
-use Rattle.mk_run_laws.proofs.Stepping.{not_empty}
 use Rattle.mk_setup.specs.declared.fault.SetupFault.{SetupFault}
 use Rattle.mk_setup.specs.declared.fault.SetupFault.TheVariants as fault
 use Rattle.mk_setup.specs.Answers.{IsReady, IsRequested, GivesNoRequest}
@@ -44,16 +43,10 @@ use Rattle.mk_run_crew.specs.inner.Wholly.{no_links}
 use Rattle.mk_run_crew.proofs.Ending.{halted}
 use Rattle.mk_run_crew.proofs.Looping.{ends, goes_on, halts, next_linked, next_replied, starts, stops}
 use Rattle.mk_run_crew.proofs.Requests.{count_pushed}
+use Rattle.mk_base.proofs.Bools.{first_holds, second_holds}
+use Rattle.mk_base.proofs.Items.{not_empty}
 
 -- ---- no links
-
-first_true : (a b : Bool) → (a && b) ≡ true → a ≡ true
-first_true true b e = refl
-first_true false b e = e
-
-rest_true : (a b : Bool) → (a && b) ≡ true → b ≡ true
-rest_true true b e = e
-rest_true false b e = absurd (true≢false (sym e))
 
 unlinked_by : (n : ℕ) (b : Begin) → is_local b ≡ true → (if not (is_local b) then Some (record { 0 = n }) else None) ≡ (let none : Option LinkNo = None in none)
 unlinked_by n (Command t) e = absurd (true≢false (sym e))
@@ -62,8 +55,8 @@ unlinked_by n (Local k) e = refl
 
 unlinked_in : (n : ℕ) (sims : List SimPart) (i : ℕ) → list_all (λ (s : SimPart). is_local s.begin) sims ≡ true → option_and_then (λ (s : SimPart). if has_link s then Some (record { 0 = n }) else None) (slice_get sims i) ≡ (let none : Option LinkNo = None in none)
 unlinked_in n [] i all = refl
-unlinked_in n (s ∷ sims) zero all = unlinked_by n s.begin (first_true (is_local s.begin) (list_all (λ (s : SimPart). is_local s.begin) sims) all)
-unlinked_in n (s ∷ sims) (suc i) all = unlinked_in n sims i (rest_true (is_local s.begin) (list_all (λ (s : SimPart). is_local s.begin) sims) all)
+unlinked_in n (s ∷ sims) zero all = unlinked_by n s.begin (first_holds (is_local s.begin) (list_all (λ (s : SimPart). is_local s.begin) sims) all)
+unlinked_in n (s ∷ sims) (suc i) all = unlinked_in n sims i (second_holds (is_local s.begin) (list_all (λ (s : SimPart). is_local s.begin) sims) all)
 
 -- no simulator has a link
 pub unlinked : (started : ℕ) (S : Scenario) → is_wholly_within S ≡ true → (i : ℕ) → sim_link started S i ≡ None
@@ -81,13 +74,13 @@ placed_by n (Local k) e = refl
 placed_in : (n : ℕ) (sims : List SimPart) → list_all (λ (s : SimPart). is_local s.begin) sims ≡ true → no_links sims ≡ places n sims
 placed_in n [] all = refl
 placed_in n (s ∷ sims) all =
-    ap (λ (ps : List (Option LinkNo)). None ∷ ps) (placed_in (n + link_count (place_of n s.begin)) sims (rest_true (is_local s.begin) (list_all (λ (s : SimPart). is_local s.begin) sims) all))
-    ∙ ap (λ (p : Option LinkNo). p ∷ places (n + link_count (place_of n s.begin)) sims) (sym (placed_by n s.begin (first_true (is_local s.begin) (list_all (λ (s : SimPart). is_local s.begin) sims) all)))
+    ap (λ (ps : List (Option LinkNo)). None ∷ ps) (placed_in (n + link_count (place_of n s.begin)) sims (second_holds (is_local s.begin) (list_all (λ (s : SimPart). is_local s.begin) sims) all))
+    ∙ ap (λ (p : Option LinkNo). p ∷ places (n + link_count (place_of n s.begin)) sims) (sym (placed_by n s.begin (first_holds (is_local s.begin) (list_all (λ (s : SimPart). is_local s.begin) sims) all)))
 
 here_in : (sims : List SimPart) (i : ℕ) → list_all (λ (s : SimPart). is_local s.begin) sims ≡ true → i < length sims → unwrap_or (option_map (λ (s : SimPart). is_local s.begin) (slice_get sims i)) false ≡ true
 here_in [] i all low = absurd (omega (arith, low))
-here_in (s ∷ sims) zero all low = first_true (is_local s.begin) (list_all (λ (s : SimPart). is_local s.begin) sims) all
-here_in (s ∷ sims) (suc i) all low = here_in sims i (rest_true (is_local s.begin) (list_all (λ (s : SimPart). is_local s.begin) sims) all) (omega (arith, low))
+here_in (s ∷ sims) zero all low = first_holds (is_local s.begin) (list_all (λ (s : SimPart). is_local s.begin) sims) all
+here_in (s ∷ sims) (suc i) all low = here_in sims i (second_holds (is_local s.begin) (list_all (λ (s : SimPart). is_local s.begin) sims) all) (omega (arith, low))
 
 -- each simulator is within the program
 pub within_low : (S : Scenario) → is_wholly_within S ≡ true → (i : ℕ) → i < length S.sims → is_within S i ≡ true

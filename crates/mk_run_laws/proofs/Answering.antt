@@ -21,12 +21,12 @@ use Rattle.mk_plan.specs.Advance.{IsAdvance}
 use Rattle.mk_plan.specs.Report.{is_step}
 use Rattle.mk_plan.specs.Orderly.{IsNext, IsAllowed, IsOrderlySoFar}
 use Rattle.mk_plan.specs.Agreement.{Continues}
-use Rattle.mk_order.proofs.Seen.{IsSound, reached_sound, same_self, not_same, open_after_is}
+use Rattle.mk_order.proofs.Seen.{IsSound, reached_sound, open_after_is}
 use Rattle.mk_order.proofs.Told.{said_is}
 use Rattle.mk_order.proofs.Pushing.{view_push, orderly_front}
 use Rattle.mk_run_laws.specs.Kinds.{Replies, AnswersByKind, IsKindReply, KeepsToKinds}
-use Rattle.mk_run_laws.proofs.Stepping.{same_or_not}
 use Rattle.mk_run_laws.proofs.Following.{all_done}
+use Rattle.mk_base.proofs.Counts.{not_same, same_or_not, same_self}
 
 module _ (P : Plan) where
   -- what one entry adds to what was said with i: nothing, an item, or a message of the entry

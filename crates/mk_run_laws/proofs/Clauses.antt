@@ -52,7 +52,7 @@ payloads_more : (id : ℕ) (a b : List Call) → (more : List (List ℕ)) × (ca
 payloads_more id [] b = (call_payloads id b, refl)
 payloads_more id (c ∷ a) b = let t = payloads_more (id + 1) a b in (t.0, ap (λ (l : List (List ℕ)). call_text id c ∷ l) t.1)
 
-payloads_counted : (id : ℕ) (calls : List Call) → length (call_payloads id calls) ≡ length calls
+pub payloads_counted : (id : ℕ) (calls : List Call) → length (call_payloads id calls) ≡ length calls
 payloads_counted id [] = refl
 payloads_counted id (c ∷ calls) = ap suc (payloads_counted (id + 1) calls)
 

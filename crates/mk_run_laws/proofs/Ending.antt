@@ -30,16 +30,12 @@ use Rattle.mk_run_laws.specs.Runs.{run_frames, IsLinkOfRun}
 use Rattle.mk_run_laws.proofs.Taking.{taken_heard, taken_rest, none_heard}
 use Rattle.mk_run_laws.proofs.Moving.{said_at_stop, framed_at_stop, all_at_stop, heard_at_stop}
 use Rattle.mk_run_laws.proofs.Stepping.{first_or_second}
-
--- there are as many payloads as calls
-calls_counted : (id : ℕ) (calls : List Call) → length (call_payloads id calls) ≡ length calls
-calls_counted id [] = refl
-calls_counted id (c ∷ calls) = ap suc (calls_counted (id + 1) calls)
+use Rattle.mk_run_laws.proofs.Clauses.{payloads_counted}
 
 -- the payloads of a run are its handshake, its items and a stop
 pub payloads_of_run : (S : Scenario) (i : ℕ) (items : List Item) → link_payloads S i (setup_count S i) items true ≡ (setup_payloads S i ++ item_payloads (setup_count S i) items) ++ call_text (id_after (setup_count S i) items) Stop ∷ []
 payloads_of_run S i items = ap (λ (ps : List (List ℕ)). (ps ++ item_payloads (setup_count S i) items) ++ call_text (id_after (setup_count S i) items) Stop ∷ [])
-    (ap (λ (n : ℕ). take n (setup_payloads S i)) (sym (calls_counted 0 (calls_to S i))) ∙ take-length (setup_payloads S i))
+    (ap (λ (n : ℕ). take n (setup_payloads S i)) (sym (payloads_counted 0 (calls_to S i))) ∙ take-length (setup_payloads S i))
 
 module _ (started : ℕ) (S : Scenario) (replies : SetupReplies) (counts : (i : ℕ) (l : LinkNo) → sim_link started S i ≡ Some l → length (replies i) ≡ setup_count S i) (J : List Entry) (log entries : List LogEntry) (risen : Type 0) (C : CrewState)
     (stopped : AreStopped entries risen C) (i : ℕ) (l : LinkNo) (linked : sim_link started S i ≡ Some l) (messages : List Message) (items : List Item) (h : HasChannel S replies log i l messages items C) where

@@ -21,8 +21,8 @@ use Rattle.mk_plan.specs.Due.{is_due}
 use Rattle.mk_plan.specs.Inputs.{inputs}
 use Rattle.mk_plan.specs.Sequential.{Messages, Visit, visits, act, grown, visit, after_visits, no_acts, sequential, talk_of, items, told, all_ended, messages_in, rest, used, ends, turn_talk, next_step, ids_used, last_time, id_after}
 use Rattle.mk_run_laws.specs.Kinds.{Replies, AnswersByKind, RepliesAreRight}
-use Rattle.mk_run_laws.proofs.Stepping.{same_or_not, same_is, apart_is}
 use Rattle.mk_run_laws.proofs.Numbering.{used_is}
+use Rattle.mk_base.proofs.Counts.{not_same, same_or_not, same_self}
 
 -- ---- talks in which each message is its kind's
 
@@ -163,10 +163,10 @@ module _ (P : Plan) (reply : Replies) (inside : ℕ → Bool) (right : RepliesAr
   made_after A (v ∷ vs) = made_after (make A v) vs
 
   grown_away : (A : Family) (s : ℕ) (a : Act) (i : ℕ) → (i ≡ s → ⊥) → grown A s a i ≡ A i
-  grown_away A s a i apart = ap (λ (b : Bool). if b then A i ++ a ∷ [] else A i) (apart_is i s apart)
+  grown_away A s a i apart = ap (λ (b : Bool). if b then A i ++ a ∷ [] else A i) (not_same i s apart)
 
   grown_here : (A : Family) (s : ℕ) (a : Act) → grown A s a s ≡ A s ++ a ∷ []
-  grown_here A s a = ap (λ (b : Bool). if b then A s ++ a ∷ [] else A s) (same_is s)
+  grown_here A s a = ap (λ (b : Bool). if b then A s ++ a ∷ [] else A s) (same_self s)
 
   -- acts are only added
   make_adds : (A : Family) (v : Visit) (i : ℕ) → (U : List Act) × (make A v i ≡ A i ++ U)

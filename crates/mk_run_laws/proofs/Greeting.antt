@@ -20,8 +20,10 @@ use Rattle.mk_run_laws.specs.Running.{SetupReplies, IsBegun}
 use Rattle.mk_run_laws.specs.inner.Running.{IsSettingUp, IsBetween}
 use Rattle.mk_run_laws.proofs.Moving.{channel_moved, channel_queued, moved_there}
 use Rattle.mk_run_laws.proofs.Polling.{IsForeign, channel_left}
-use Rattle.mk_run_laws.proofs.Stepping.{same_or_not, same_is, apart_is, first_or_second, not_empty}
+use Rattle.mk_run_laws.proofs.Stepping.{first_or_second}
 use Rattle.mk_run_laws.proofs.SettingUp.{well_in_setup, not_set_up}
+use Rattle.mk_base.proofs.Counts.{not_same, same_or_not, same_self}
+use Rattle.mk_base.proofs.Items.{not_empty}
 
 -- ---- one channel of a list
 
@@ -30,9 +32,9 @@ pub moved_one : (entries : List LogEntry) (given : List Message) (C D : CrewStat
     → ((i : ℕ) (u : Channel) → (i ≡ s → ⊥) → channel_at C i ≡ Some u → IsForeign u.link entries) → AreMoved entries (λ i. if s == i then given else []) C D
 moved_one entries given C D s w v there now others moved foreign i = elim (same_or_not i s) [
   | inl q ↦ subst (λ (j : ℕ). IsMovedAt entries (if s == j then given else []) (channel_at C j) (channel_at D j)) (sym q)
-      (subst (λ (b : Bool). IsMovedAt entries (if b then given else []) (channel_at C s) (channel_at D s)) (sym (same_is s))
+      (subst (λ (b : Bool). IsMovedAt entries (if b then given else []) (channel_at C s) (channel_at D s)) (sym (same_self s))
       (subst (λ (o : Option Channel). IsMovedAt entries given o (channel_at D s)) (sym there) (subst (λ (o : Option Channel). IsMovedAt entries given (Some w) o) (sym now) moved)))
-  | inr apart ↦ subst (λ (b : Bool). IsMovedAt entries (if b then given else []) (channel_at C i) (channel_at D i)) (sym (apart_is s i (λ e. apart (sym e))))
+  | inr apart ↦ subst (λ (b : Bool). IsMovedAt entries (if b then given else []) (channel_at C i) (channel_at D i)) (sym (not_same s i (λ e. apart (sym e))))
       (subst (λ (o : Option Channel). IsMovedAt entries [] (channel_at C i) o) (sym (others i apart)) (still (channel_at C i) refl apart))
 ]
   where
@@ -52,11 +54,11 @@ channel_set C D s old v there is = (
 calls_push : (i : ℕ) (done : List Request) (r : Request) → filter_map (call_to i) (done ++ r ∷ []) ≡ filter_map (call_to i) done ++ filter_map (call_to i) (r ∷ [])
 calls_push i done r = filter_map_append (call_to i) done (r ∷ [])
 
-one_here : (r : Request) → filter_map (call_to r.sim) (r ∷ []) ≡ r.call ∷ []
-one_here r = ap (λ (b : Bool). cons_option (if b then Some r.call else None) []) (same_is r.sim)
+pub one_here : (r : Request) → filter_map (call_to r.sim) (r ∷ []) ≡ r.call ∷ []
+one_here r = ap (λ (b : Bool). cons_option (if b then Some r.call else None) []) (same_self r.sim)
 
-one_away : (r : Request) (i : ℕ) → (i ≡ r.sim → ⊥) → filter_map (call_to i) (r ∷ []) ≡ []
-one_away r i apart = ap (λ (b : Bool). cons_option (if b then Some r.call else None) []) (apart_is r.sim i (λ e. apart (sym e)))
+pub one_away : (r : Request) (i : ℕ) → (i ≡ r.sim → ⊥) → filter_map (call_to i) (r ∷ []) ≡ []
+one_away r i apart = ap (λ (b : Bool). cons_option (if b then Some r.call else None) []) (not_same r.sim i (λ e. apart (sym e)))
 
 payloads_push : (id : ℕ) (calls : List Call) (c : Call) → call_payloads id (calls ++ c ∷ []) ≡ call_payloads id calls ++ call_text (id + length calls) c ∷ []
 payloads_push id [] c = ap (λ (n : ℕ). call_text n c ∷ []) (let e : id ≡ id + 0 = omega arith in e)

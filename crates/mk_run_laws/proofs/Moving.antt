@@ -15,40 +15,18 @@ use Rattle.mk_run_laws.specs.Payloads.{AreFramed, IsFramed}
 use Rattle.mk_run_laws.specs.Channels.{Channel, IsParkedIn, StaysParked, IsMoved, IsChannelAt, queued, IsStopped}
 use Rattle.mk_run_laws.proofs.Taking.{takes_more}
 use Rattle.mk_run_laws.specs.Crews.{IsMovedAt}
+use Rattle.mk_outside.proofs.OnLogs.{heard-append, said-append, later-assoc, later-none, last-append}
+use Rattle.mk_frame.proofs.OnFrames.{frames_of-append, frames_of-push}
 
 -- ---- logs
 
-pub heard_more : (l : LinkNo) (a b : List LogEntry) → heard_on l (a ++ b) ≡ heard_on l a ++ heard_on l b
-heard_more l a b = flat_map_append (heard_by l) a b
-
-pub said_more : (l : LinkNo) (a b : List LogEntry) → said_on l (a ++ b) ≡ said_on l a ++ said_on l b
-said_more l a b = flat_map_append (said_by l) a b
-
-later_assoc : (x y z : Option LogEntry) → later_of x (later_of y z) ≡ later_of (later_of x y) z
-later_assoc x y None = refl
-later_assoc x y (Some e) = refl
-
-later_none : (y : Option LogEntry) → later_of None y ≡ y
-later_none None = refl
-later_none (Some e) = refl
-
-pub last_more : (test : LogEntry → Bool) (a b : List LogEntry) → last_that test (a ++ b) ≡ later_of (last_that test a) (last_that test b)
-last_more test [] b = sym (later_none (last_that test b))
-last_more test (e ∷ a) b = ap (later_of (if test e then Some e else None)) (last_more test a b) ∙ later_assoc (if test e then Some e else None) (last_that test a) (last_that test b)
-
 -- the last one of the later entries is the last one of all
 pub last_later : (test : LogEntry → Bool) (a b : List LogEntry) (e : LogEntry) → last_that test b ≡ Some e → last_that test (a ++ b) ≡ Some e
-last_later test a b e is = last_more test a b ∙ ap (later_of (last_that test a)) is
+last_later test a b e is = last-append test a b ∙ ap (later_of (last_that test a)) is
 
 -- where there is none of the later entries, the last one stays
 pub last_kept : (test : LogEntry → Bool) (a b : List LogEntry) → last_that test b ≡ None → last_that test (a ++ b) ≡ last_that test a
-last_kept test a b is = last_more test a b ∙ ap (later_of (last_that test a)) is
-
-pub frames_more : (a b : List (List ℕ)) → frames_of (a ++ b) ≡ frames_of a ++ frames_of b
-frames_more a b = flat_map_append frame_of a b
-
-pub frames_push : (a : List (List ℕ)) (p : List ℕ) → frames_of (a ++ p ∷ []) ≡ frames_of a ++ frame_of p
-frames_push a p = frames_more a (p ∷ []) ∙ ap (λ (f : List ℕ). frames_of a ++ f) (append_nil (frame_of p))
+last_kept test a b is = last-append test a b ∙ ap (later_of (last_that test a)) is
 
 -- ---- parked channels
 
@@ -73,9 +51,9 @@ pub channel_moved : (log entries : List LogEntry) (ms given : List Message) (pay
     → IsChannelAt (log ++ entries) (ms ++ given) payloads next new
 channel_moved log entries ms given payloads next old new at moved = record {
   heard = subst (λ (l : LinkNo). Takes (heard_on l (log ++ entries)) (ms ++ given) new.held) (sym moved.link)
-      (subst (λ (h : List ℕ). Takes h (ms ++ given) new.held) (sym (heard_more old.link log entries))
+      (subst (λ (h : List ℕ). Takes h (ms ++ given) new.held) (sym (heard-append old.link log entries))
       (takes_more (heard_on old.link log) (heard_on old.link entries) old.held new.held ms given at.heard moved.taken));
-  said = ap (λ (l : LinkNo). said_on l (log ++ entries) ++ new.unsent) moved.link ∙ ap (λ (b : List ℕ). b ++ new.unsent) (said_more old.link log entries)
+  said = ap (λ (l : LinkNo). said_on l (log ++ entries) ++ new.unsent) moved.link ∙ ap (λ (b : List ℕ). b ++ new.unsent) (said-append old.link log entries)
       ∙ append_assoc (said_on old.link log) (said_on old.link entries) new.unsent ∙ ap (λ (b : List ℕ). said_on old.link log ++ b) moved.said ∙ at.said;
   framed = at.framed;
   next_id = moved.next ∙ at.next_id;
@@ -87,9 +65,9 @@ pub moved_twice : (a b : List LogEntry) (given later : List Message) (old mid ne
 moved_twice a b given later old mid new one two = record {
   link = two.link ∙ one.link;
   next = two.next ∙ one.next;
-  said = ap (λ (x : List ℕ). x ++ new.unsent) (said_more old.link a b) ∙ append_assoc (said_on old.link a) (said_on old.link b) new.unsent
+  said = ap (λ (x : List ℕ). x ++ new.unsent) (said-append old.link a b) ∙ append_assoc (said_on old.link a) (said_on old.link b) new.unsent
       ∙ ap (λ (x : List ℕ). said_on old.link a ++ x) (ap (λ (l : LinkNo). said_on l b ++ new.unsent) (sym one.link) ∙ two.said) ∙ one.said;
-  taken = subst (λ (h : List ℕ). Takes (old.held ++ h) (given ++ later) new.held) (sym (heard_more old.link a b))
+  taken = subst (λ (h : List ℕ). Takes (old.held ++ h) (given ++ later) new.held) (sym (heard-append old.link a b))
       (subst (λ (h : List ℕ). Takes h (given ++ later) new.held) (append_assoc old.held (heard_on old.link a) (heard_on old.link b))
       (takes_more (old.held ++ heard_on old.link a) (heard_on old.link b) mid.held new.held given later one.taken
       (subst (λ (l : LinkNo). Takes (mid.held ++ heard_on l b) later new.held) one.link two.taken)));
@@ -117,7 +95,7 @@ pub channel_queued : (log : List LogEntry) (ms : List Message) (payloads : List 
     → IsChannelAt log ms (payloads ++ payload ∷ []) after (queued payload after old)
 channel_queued log ms payloads next after payload old at one = record {
   heard = at.heard;
-  said = sym (append_assoc (said_on old.link log) old.unsent (frame_of payload)) ∙ ap (λ (b : List ℕ). b ++ frame_of payload) at.said ∙ sym (frames_push payloads payload);
+  said = sym (append_assoc (said_on old.link log) old.unsent (frame_of payload)) ∙ ap (λ (b : List ℕ). b ++ frame_of payload) at.said ∙ sym (frames_of-push payloads payload);
   framed = framed_push payloads payload at.framed one;
   next_id = refl;
   parked = λ p. absurd (true≢false (sym p));
@@ -128,23 +106,23 @@ pub said_at_stop : (log entries : List LogEntry) (ms : List Message) (payloads :
     → BeginsWith (frames_of (payloads ++ call_text next Stop ∷ [])) (said_on w.link (log ++ entries))
 said_at_stop log entries ms payloads next risen w at stopped = (
   stopped.said.0,
-  frames_push payloads (call_text next Stop) ∙ ap (λ (n : ℕ). frames_of payloads ++ frame_of (call_text n Stop)) (sym at.next_id)
+  frames_of-push payloads (call_text next Stop) ∙ ap (λ (n : ℕ). frames_of payloads ++ frame_of (call_text n Stop)) (sym at.next_id)
       ∙ ap (λ (b : List ℕ). b ++ frame_of (call_text w.next Stop)) (sym at.said)
       ∙ append_assoc (said_on w.link log) w.unsent (frame_of (call_text w.next Stop))
       ∙ ap (λ (b : List ℕ). said_on w.link log ++ b) stopped.said.1
       ∙ sym (append_assoc (said_on w.link log) (said_on w.link entries) stopped.said.0)
-      ∙ ap (λ (b : List ℕ). b ++ stopped.said.0) (sym (said_more w.link log entries)),
+      ∙ ap (λ (b : List ℕ). b ++ stopped.said.0) (sym (said-append w.link log entries)),
 )
 
 -- and all of it, but where a write took nothing or the count of faults rose
 pub all_at_stop : (log entries : List LogEntry) (ms : List Message) (payloads : List (List ℕ)) (next : ℕ) (risen : Type 0) (w : Channel) → IsChannelAt log ms payloads next w → IsStopped entries risen w
     → (said_on w.link (log ++ entries) ≡ frames_of (payloads ++ call_text next Stop ∷ [])) ⊎ ((last_write w.link (log ++ entries) ≡ Some (NotSaid w.link)) ⊎ risen)
 all_at_stop log entries ms payloads next risen w at stopped = elim stopped.whole [
-  | inl all ↦ inl (said_more w.link log entries ∙ ap (λ (b : List ℕ). said_on w.link log ++ b) all
+  | inl all ↦ inl (said-append w.link log entries ∙ ap (λ (b : List ℕ). said_on w.link log ++ b) all
       ∙ sym (append_assoc (said_on w.link log) w.unsent (frame_of (call_text w.next Stop)))
       ∙ ap (λ (b : List ℕ). b ++ frame_of (call_text w.next Stop)) at.said
       ∙ ap (λ (n : ℕ). frames_of payloads ++ frame_of (call_text n Stop)) at.next_id
-      ∙ sym (frames_push payloads (call_text next Stop)))
+      ∙ sym (frames_of-push payloads (call_text next Stop)))
   | inr (inl not) ↦ inr (inl (last_later (is_write w.link) log entries (NotSaid w.link) not))
   | inr (inr rose) ↦ inr (inr rose)
 ]
@@ -155,7 +133,7 @@ framed_at_stop log entries ms payloads next risen w at stopped = framed_push pay
 
 -- nothing is heard while a channel is stopped
 pub heard_at_stop : (log entries : List LogEntry) (risen : Type 0) (w : Channel) → IsStopped entries risen w → heard_on w.link (log ++ entries) ≡ heard_on w.link log
-heard_at_stop log entries risen w stopped = heard_more w.link log entries ∙ ap (λ (b : List ℕ). heard_on w.link log ++ b) stopped.unheard ∙ append_nil (heard_on w.link log)
+heard_at_stop log entries risen w stopped = heard-append w.link log entries ∙ ap (λ (b : List ℕ). heard_on w.link log ++ b) stopped.unheard ∙ append_nil (heard_on w.link log)
 
 -- ---- a channel at a place, where one may be
 

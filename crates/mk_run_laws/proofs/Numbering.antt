@@ -25,9 +25,9 @@ use Rattle.mk_plan.specs.Journals.{View, OpenTurn, Owed, empty_view, view, sent,
 use Rattle.mk_plan.specs.Ready.{IsReady}
 use Rattle.mk_plan.specs.Advance.{IsAdvance}
 use Rattle.mk_plan.specs.Orderly.{IsNext, IsAllowed, IsOrderlyFrom, IsOrderlySoFar}
-use Rattle.mk_order.proofs.Seen.{IsSound, follows, owed_at, same_self, not_same, open_after_is}
+use Rattle.mk_order.proofs.Seen.{IsSound, follows, owed_at, open_after_is}
 use Rattle.mk_order.proofs.Told.{said_is}
-use Rattle.mk_run_laws.proofs.Stepping.{same_or_not}
+use Rattle.mk_base.proofs.Counts.{not_same, same_or_not, same_self}
 
 -- ---- counting
 
@@ -59,7 +59,7 @@ used_is (a ∷ acts) =
     both ∙ (λ i. one_used a i + used_is acts i) ∙ sym (own_more a.talk (talk_of acts))
 
 -- items without their max_advance take as many
-bare_takes : (l : List Item) → length (filter takes_id (map bare l)) ≡ length (filter takes_id l)
+pub bare_takes : (l : List Item) → length (filter takes_id (map bare l)) ≡ length (filter takes_id l)
 bare_takes [] = refl
 bare_takes (Step x ins advance ∷ l) = ap suc (bare_takes l)
 bare_takes (GetData wants ∷ l) = ap suc (bare_takes l)

@@ -11,7 +11,8 @@ use Rattle.mk_outside.specs.declared.fleet.LogEntry.TheVariants.{Heard, NotHeard
 use Rattle.mk_outside.specs.Logs.{IsOnLink, heard_on, said_on, last_read, last_write}
 use Rattle.mk_run_laws.specs.Hearing.{Takes, none, more}
 use Rattle.mk_run_laws.specs.Channels.{Channel, IsMoved}
-use Rattle.mk_run_laws.proofs.Stepping.{apart_is, not_empty}
+use Rattle.mk_base.proofs.Counts.{not_same}
+use Rattle.mk_base.proofs.Items.{not_empty}
 
 -- a poll that is pending parks its channel
 pub pending_moved : (entries : List LogEntry) (old new : Channel) → new.link ≡ old.link → new.next ≡ old.next → said_on old.link entries ++ new.unsent ≡ old.unsent → new.held ≡ old.held ++ heard_on old.link entries → IsUnfinished new.held
@@ -70,7 +71,7 @@ foreign l k apart [] all = record { unheard = refl; unsaid = refl; unread = refl
 foreign l k apart (e ∷ entries) all = let rest = foreign l k apart entries all.1 in one e all.0 rest
   where
     other : (on : LinkNo) → on ≡ l → (on.0 == k.0) ≡ false
-    other on q = apart_is on.0 k.0 (λ e. apart (sym (ap (λ (x : LinkNo). x.0) q) ∙ e))
+    other on q = not_same on.0 k.0 (λ e. apart (sym (ap (λ (x : LinkNo). x.0) q) ∙ e))
 
     one : (e : LogEntry) → IsOnLink l e → IsForeign k entries → IsForeign k (e ∷ entries)
     one (Heard on bytes) q r = let b = other on q in record { unheard = rw (b, r.unheard) refl; unsaid = r.unsaid; unread = rw (b, r.unread) refl; unwritten = rw r.unwritten refl }

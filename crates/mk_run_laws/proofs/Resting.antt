@@ -24,6 +24,7 @@ use Rattle.mk_run_laws.specs.Channels.{Channel, IsChannelAt}
 use Rattle.mk_run_laws.specs.Rests.{with_number, within, run_messages, heard_counts, at_rest, all_frames, SaysAll, IsWellAtRest, RestsWell}
 use Rattle.mk_run_laws.specs.Running.{SetupReplies, IsInStep, IsRestOf, BeginsOnLink, RestsEnd}
 use Rattle.mk_run_laws.proofs.Taking.{taken_heard, none_heard, none_first, unfinished_none}
+use Rattle.mk_base.proofs.Counts.{same_or_not}
 
 -- ---- the longest beginning
 
@@ -47,9 +48,6 @@ Bounded left A = (i n : ℕ) → left i ≡ Some n → length (got A i) ≤ n
 -- what follows is nothing, or begins with a message of a simulator that has none left
 abbrev Over : (ℕ → Option ℕ) → List Entry → List Entry → Type 0
 Over left A K = (K ≡ []) ⊎ ((s : SimNo) × (m : Message) × (later : List Entry) × (K ≡ Got s m ∷ later) × (left s.0 ≡ Some (length (got A s.0))))
-
-same_or_not : (a b : ℕ) → (a ≡ b) ⊎ (a ≡ b → ⊥)
-same_or_not a b = elim (a == b) as (λ c. (a == b) ≡ c → (a ≡ b) ⊎ (a ≡ b → ⊥)) [ true ↦ λ e. inl (eqb-true a b e) | false ↦ λ e. inr (λ q. true≢false (sym (eq-eqb a b q) ∙ e)) ] refl
 
 pub number_here : (s : ℕ) (n : Option ℕ) (left : ℕ → Option ℕ) → with_number s n left s ≡ n
 number_here s n left = ap (λ (b : Bool). if b then n else left s) (eq-eqb s s refl)

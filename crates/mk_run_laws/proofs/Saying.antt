@@ -33,6 +33,7 @@ use Rattle.mk_run_laws.specs.Kinds.{Replies, KeepsToKinds}
 use Rattle.mk_run_laws.specs.Rests.{run_messages}
 use Rattle.mk_run_laws.specs.Runs.{IsPossible, IsPossibleUpTo, is_other_within}
 use Rattle.mk_run_laws.proofs.Following.{followed, all_done}
+use Rattle.mk_base.proofs.Items.{begins_twice}
 
 -- a simulator that isn't within the program has a link
 pub link_there : (started : ℕ) (S : Scenario) (i : ℕ) → i < length S.sims → is_within S i ≡ false → (l : LinkNo) × (sim_link started S i ≡ Some l)
@@ -41,9 +42,6 @@ link_there started S i low out =
     let outside : is_local t.0.begin ≡ false = sym (ap (λ (o : Option SimPart). unwrap_or (option_map (λ (s : SimPart). is_local s.begin) o) false) t.1) ∙ out in
     let l : LinkNo = record { 0 = started + length (filter has_link (take i S.sims)) } in
     (l, ap (λ (o : Option SimPart). option_and_then (λ (s : SimPart). if has_link s then Some l else None) o) t.1 ∙ ap (λ (b : Bool). if not b then Some l else None) outside)
-
-begins_twice : {X : Type 0} (l a b : List X) → BeginsWith l a → BeginsWith a b → BeginsWith l b
-begins_twice l a b s t = (t.0 ++ s.0, s.1 ∙ ap (λ x. x ++ s.0) t.1 ∙ append_assoc b t.0 s.0)
 
 mapped : {X Y : Type 0} (f : X → Y) (l a : List X) → BeginsWith l a → BeginsWith (map f l) (map f a)
 mapped f l a t = (map f t.0, ap (map f) t.1 ∙ map_append f a t.0)

@@ -18,8 +18,8 @@ use Rattle.mk_run_laws.specs.Crews.{CrewState, AreParkedAtRests}
 use Rattle.mk_run_laws.specs.Running.{SetupReplies}
 use Rattle.mk_run_laws.specs.inner.Running.{IsSettingUp}
 use Rattle.mk_run_laws.proofs.Moving.{channel_moved}
-use Rattle.mk_run_laws.proofs.Stepping.{same_or_not, same_is, apart_is}
 use Rattle.mk_run_laws.proofs.Resting.{number_here, number_away, parked_said, parked_messages}
+use Rattle.mk_base.proofs.Counts.{not_same, same_or_not, same_self}
 
 -- ---- which requests were asked
 
@@ -28,10 +28,10 @@ abbrev count_to : ℕ → List Request → ℕ
 count_to i rs = length (filter_map (call_to i) rs)
 
 to_here : (r : Request) (rs : List Request) → filter_map (call_to r.sim) (r ∷ rs) ≡ r.call ∷ filter_map (call_to r.sim) rs
-to_here r rs = ap (λ (b : Bool). cons_option (if b then Some r.call else None) (filter_map (call_to r.sim) rs)) (same_is r.sim)
+to_here r rs = ap (λ (b : Bool). cons_option (if b then Some r.call else None) (filter_map (call_to r.sim) rs)) (same_self r.sim)
 
 to_away : (r : Request) (rs : List Request) (i : ℕ) → (r.sim ≡ i → ⊥) → filter_map (call_to i) (r ∷ rs) ≡ filter_map (call_to i) rs
-to_away r rs i n = ap (λ (b : Bool). cons_option (if b then Some r.call else None) (filter_map (call_to i) rs)) (apart_is r.sim i n)
+to_away r rs i n = ap (λ (b : Bool). cons_option (if b then Some r.call else None) (filter_map (call_to i) rs)) (not_same r.sim i n)
 
 -- the heads are equal, so lists to i are if those of what follows are
 with_head : (r : Request) (xs ys : List Request) (i : ℕ) → filter_map (call_to i) xs ≡ filter_map (call_to i) ys → filter_map (call_to i) (r ∷ xs) ≡ filter_map (call_to i) (r ∷ ys)

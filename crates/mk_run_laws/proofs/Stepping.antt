@@ -24,7 +24,7 @@ use Rattle.mk_scenario.specs.declared.parts.SimPart.{SimPart}
 use Rattle.mk_scenario.specs.declared.parts.Scenario.{Scenario}
 use Rattle.mk_outside.specs.declared.fleet.LogEntry.{LogEntry}
 use Rattle.mk_outside.specs.declared.fleet.LogEntry.TheVariants.{Rest}
-use Rattle.mk_order.proofs.Pushing.{view_push, sent_push, got_push}
+use Rattle.mk_order.proofs.Pushing.{view_push, got_push}
 use Rattle.mk_run_laws.specs.Handshake.{is_local, has_link, is_within, sim_link, setup_count, setup_payloads}
 use Rattle.mk_run_laws.specs.Payloads.{item_payloads}
 use Rattle.mk_run_laws.specs.Channels.{Channel, IsChannelAt, queued}
@@ -33,17 +33,11 @@ use Rattle.mk_run_laws.specs.Crews.{CrewState, channel_at, kept_from, kept_of, g
 use Rattle.mk_run_laws.specs.Running.{SetupReplies, IsInStep, IsRestOf, BeginsOnLink, RestsEnd, IsBegun}
 use Rattle.mk_run_laws.specs.inner.Running.{HasChannel, awaited, RestsOver, IsRunningWith, IsRunning, IsUnready}
 use Rattle.mk_run_laws.proofs.Moving.{channel_moved, channel_queued, moved_there, moved_none}
+use Rattle.mk_base.proofs.Counts.{not_same, same_or_not, same_self}
+use Rattle.mk_base.proofs.Items.{not_empty, same_heads}
+use Rattle.mk_plan.proofs.Sending.{sent_push}
 
 -- ---- numbers that are equal or not
-
-pub same_or_not : (a b : ℕ) → (a ≡ b) ⊎ (a ≡ b → ⊥)
-same_or_not a b = elim (a == b) as (λ c. (a == b) ≡ c → (a ≡ b) ⊎ (a ≡ b → ⊥)) [ true ↦ λ e. inl (eqb-true a b e) | false ↦ λ e. inr (λ q. true≢false (sym (eq-eqb a b q) ∙ e)) ] refl
-
-pub same_is : (a : ℕ) → (a == a) ≡ true
-same_is a = eq-eqb a a refl
-
-pub apart_is : (a b : ℕ) → (a ≡ b → ⊥) → (a == b) ≡ false
-apart_is a b n = elim (a == b) as (λ c. (a == b) ≡ c → c ≡ false) [ true ↦ λ e. absurd (n (eqb-true a b e)) | false ↦ λ e. refl ] refl
 
 -- ---- entries that are pushed
 
@@ -51,10 +45,10 @@ pub got_sent : (J : List Entry) (s : SimNo) (item : Item) (i : ℕ) → got (J +
 got_sent J s item i = got_push J (Sent s item) i ∙ append_nil (got J i)
 
 pub got_here : (J : List Entry) (s : SimNo) (m : Message) → got (J ++ Got s m ∷ []) s.0 ≡ got J s.0 ++ m ∷ []
-got_here J s m = got_push J (Got s m) s.0 ∙ ap (λ (b : Bool). got J s.0 ++ cons_option (if b then Some m else None) []) (same_is s.0)
+got_here J s m = got_push J (Got s m) s.0 ∙ ap (λ (b : Bool). got J s.0 ++ cons_option (if b then Some m else None) []) (same_self s.0)
 
 pub got_away : (J : List Entry) (s : SimNo) (m : Message) (i : ℕ) → (i ≡ s.0 → ⊥) → got (J ++ Got s m ∷ []) i ≡ got J i
-got_away J s m i n = got_push J (Got s m) i ∙ ap (λ (b : Bool). got J i ++ cons_option (if b then Some m else None) []) (apart_is s.0 i (λ e. n (sym e))) ∙ append_nil (got J i)
+got_away J s m i n = got_push J (Got s m) i ∙ ap (λ (b : Bool). got J i ++ cons_option (if b then Some m else None) []) (not_same s.0 i (λ e. n (sym e))) ∙ append_nil (got J i)
 
 pub got_given : (J : List Entry) (s : SimNo) (m : Message) (i : ℕ) → got (J ++ Got s m ∷ []) i ≡ got J i ++ given_by s.0 m i
 got_given J s m i = got_push J (Got s m) i ∙ elim (s.0 == i) as (λ b. got J i ++ cons_option (if b then Some m else None) [] ≡ got J i ++ (if b then m ∷ [] else [])) [ true ↦ refl | false ↦ refl ]
@@ -63,17 +57,17 @@ pub sent_got : (J : List Entry) (s : SimNo) (m : Message) (i : ℕ) → sent (J 
 sent_got J s m i = sent_push J (Got s m) i ∙ append_nil (sent J i)
 
 pub sent_here : (J : List Entry) (s : SimNo) (item : Item) → sent (J ++ Sent s item ∷ []) s.0 ≡ sent J s.0 ++ item ∷ []
-sent_here J s item = sent_push J (Sent s item) s.0 ∙ ap (λ (b : Bool). sent J s.0 ++ cons_option (if b then Some item else None) []) (same_is s.0)
+sent_here J s item = sent_push J (Sent s item) s.0 ∙ ap (λ (b : Bool). sent J s.0 ++ cons_option (if b then Some item else None) []) (same_self s.0)
 
 pub sent_away : (J : List Entry) (s : SimNo) (item : Item) (i : ℕ) → (i ≡ s.0 → ⊥) → sent (J ++ Sent s item ∷ []) i ≡ sent J i
-sent_away J s item i n = sent_push J (Sent s item) i ∙ ap (λ (b : Bool). sent J i ++ cons_option (if b then Some item else None) []) (apart_is s.0 i (λ e. n (sym e))) ∙ append_nil (sent J i)
+sent_away J s item i n = sent_push J (Sent s item) i ∙ ap (λ (b : Bool). sent J i ++ cons_option (if b then Some item else None) []) (not_same s.0 i (λ e. n (sym e))) ∙ append_nil (sent J i)
 
 -- what is open at the others stays
-open_away : (P : Plan) (V : View) (s : ℕ) (o : Option OpenTurn) (i : ℕ) → (i ≡ s → ⊥) → with_open V s o i ≡ V.open_at i
-open_away P V s o i n = ap (λ (b : Bool). if b then o else V.open_at i) (apart_is i s n)
+pub open_away : (P : Plan) (V : View) (s : ℕ) (o : Option OpenTurn) (i : ℕ) → (i ≡ s → ⊥) → with_open V s o i ≡ V.open_at i
+open_away P V s o i n = ap (λ (b : Bool). if b then o else V.open_at i) (not_same i s n)
 
 open_here : (P : Plan) (V : View) (s : ℕ) (o : Option OpenTurn) → with_open V s o s ≡ o
-open_here P V s o = ap (λ (b : Bool). if b then o else V.open_at s) (same_is s)
+open_here P V s o = ap (λ (b : Bool). if b then o else V.open_at s) (same_self s)
 
 pub open_sent : (P : Plan) (J : List Entry) (s : SimNo) (item : Item) (i : ℕ) → (i ≡ s.0 → ⊥) → (view P (J ++ Sent s item ∷ [])).open_at i ≡ (view P J).open_at i
 open_sent P J s item i n = ap (λ (V : View). V.open_at i) (view_push P J (Sent s item)) ∙ open_away P (view P J) s.0 (open_after P (view P J) s.0 item) i n
@@ -146,30 +140,23 @@ text_same (Refuse asked reason) id other h = refl
 
 -- ---- places in lists
 
-heads : {X : Type 0} {x y : X} {xs ys : List X} → x ∷ xs ≡ y ∷ ys → (x ≡ y) × (xs ≡ ys)
-heads e = (cc, cc)
-
-pub not_empty : {X : Type 0} (H more : List X) (d : X) → [] ≡ H ++ d ∷ more → ⊥
-not_empty [] more d e = cc
-not_empty (h ∷ H) more d e = cc
-
 -- an entry of a longer journal is its last, or one of the shorter
 last_or_before : (J : List Entry) (e : Entry) (H : List Entry) (d : Entry) (more : List Entry) → J ++ e ∷ [] ≡ H ++ d ∷ more → ((J ≡ H) × (e ≡ d)) ⊎ ((less : List Entry) × (J ≡ H ++ d ∷ less))
-last_or_before [] e [] d more q = inl (refl, (heads q).0)
-last_or_before [] e (h ∷ H) d more q = absurd (not_empty H more d (heads q).1)
-last_or_before (j ∷ J) e [] d more q = inr (J, ap (λ (x : Entry). x ∷ J) (heads q).0)
-last_or_before (j ∷ J) e (h ∷ H) d more q = elim (last_or_before J e H d more (heads q).1) [
-  | inl t ↦ inl ((λ i. (heads q).0 i ∷ t.0 i), t.1)
-  | inr t ↦ inr (t.0, (λ i. (heads q).0 i ∷ t.1 i))
+last_or_before [] e [] d more q = inl (refl, (same_heads q).0)
+last_or_before [] e (h ∷ H) d more q = absurd (not_empty H more d (same_heads q).1)
+last_or_before (j ∷ J) e [] d more q = inr (J, ap (λ (x : Entry). x ∷ J) (same_heads q).0)
+last_or_before (j ∷ J) e (h ∷ H) d more q = elim (last_or_before J e H d more (same_heads q).1) [
+  | inl t ↦ inl ((λ i. (same_heads q).0 i ∷ t.0 i), t.1)
+  | inr t ↦ inr (t.0, (λ i. (same_heads q).0 i ∷ t.1 i))
 ]
 
 -- an entry of two logs is one of the first or one of the second
 pub first_or_second : (a b before after : List LogEntry) (r : LogEntry) → a ++ b ≡ before ++ r ∷ after → ((less : List LogEntry) × (a ≡ before ++ r ∷ less)) ⊎ ((less : List LogEntry) × (before ≡ a ++ less) × (b ≡ less ++ r ∷ after))
 first_or_second [] b before after r q = inr (before, refl, q)
-first_or_second (x ∷ a) b [] after r q = inl (a, ap (λ (y : LogEntry). y ∷ a) (heads q).0)
-first_or_second (x ∷ a) b (y ∷ before) after r q = elim (first_or_second a b before after r (heads q).1) [
-  | inl t ↦ inl (t.0, (λ i. (heads q).0 i ∷ t.1 i))
-  | inr t ↦ inr (t.0, (let e : y ≡ x = sym (heads q).0 in λ i. e i ∷ t.1 i), t.2)
+first_or_second (x ∷ a) b [] after r q = inl (a, ap (λ (y : LogEntry). y ∷ a) (same_heads q).0)
+first_or_second (x ∷ a) b (y ∷ before) after r q = elim (first_or_second a b before after r (same_heads q).1) [
+  | inl t ↦ inl (t.0, (λ i. (same_heads q).0 i ∷ t.1 i))
+  | inr t ↦ inr (t.0, (let e : y ≡ x = sym (same_heads q).0 in λ i. e i ∷ t.1 i), t.2)
 ]
 
 module _ (started : ℕ) (S : Scenario) where
@@ -284,9 +271,9 @@ module _ (started : ℕ) (S : Scenario) (replies : SetupReplies) (reply : Replie
     no_channel = λ i h. ap (λ (l : List (Option Channel)). channel_in l i) sent_so.channels ∙ run.no_channel i h;
     kept = λ i. ap (kept_of i) sent_so.kept ∙ kept_push i C.kept answer ∙ ap (λ (ms : List Message). ms ++ kept_of i (answer ∷ [])) (run.kept i) ∙ elim (same_or_not i s.0) [
       | inl q ↦ subst (λ (j : ℕ). awaits j ++ kept_of j (answer ∷ []) ≡ awaited S reply P (J ++ Sent s item ∷ []) j) (sym q) (ap (λ (ms : List Message). ms ++ kept_of s.0 (answer ∷ [])) none
-          ∙ ap (λ (b : Bool). cons_option (if b then Some answer.message else None) []) (same_is s.0)
+          ∙ ap (λ (b : Bool). cons_option (if b then Some answer.message else None) []) (same_self s.0)
           ∙ sym (ap (λ (b : Bool). if b && is_some ((view P (J ++ Sent s item ∷ [])).open_at s.0) then answer.message ∷ [] else []) inside ∙ ap (λ (b : Bool). if b then answer.message ∷ [] else []) opened))
-      | inr apart ↦ ap (λ (b : Bool). awaits i ++ cons_option (if b then Some answer.message else None) []) (apart_is s.0 i (λ q. apart (sym q))) ∙ append_nil (awaits i) ∙ others i apart
+      | inr apart ↦ ap (λ (b : Bool). awaits i ++ cons_option (if b then Some answer.message else None) []) (not_same s.0 i (λ q. apart (sym q))) ∙ append_nil (awaits i) ∙ others i apart
           ∙ sym (awaited_away J s item i apart)
     ];
     kinds = kinds_sent J s item run.kinds;
@@ -320,10 +307,10 @@ module _ (started : ℕ) (S : Scenario) (replies : SetupReplies) (reply : Replie
   but s awaits i = if i == s then [] else awaits i
 
   but_here : (s : ℕ) (awaits : ℕ → List Message) → but s awaits s ≡ []
-  but_here s awaits = ap (λ (b : Bool). if b then [] else awaits s) (same_is s)
+  but_here s awaits = ap (λ (b : Bool). if b then [] else awaits s) (same_self s)
 
   but_away : (s : ℕ) (awaits : ℕ → List Message) (i : ℕ) → (i ≡ s → ⊥) → but s awaits i ≡ awaits i
-  but_away s awaits i n = ap (λ (b : Bool). if b then [] else awaits i) (apart_is i s n)
+  but_away s awaits i n = ap (λ (b : Bool). if b then [] else awaits i) (not_same i s n)
 
   -- where no reply is kept, no request is open within the program
   pub none_open : (J : List Entry) (log : List LogEntry) (C : CrewState) → IsRunning started S replies reply P J log C → C.kept ≡ [] → (i : ℕ) → is_within S i ≡ true → (view P J).open_at i ≡ None
@@ -398,12 +385,12 @@ module _ (started : ℕ) (S : Scenario) (replies : SetupReplies) (reply : Replie
     first.1,
     (λ i. elim (same_or_not i s.0) [
       | inl q ↦ subst (λ (j : ℕ). kept_of j D.kept ≡ but s.0 (awaited S reply P J) j) (sym q) (first.2 ∙ sym (but_here s.0 (awaited S reply P J)))
-      | inr apart ↦ ap (λ (b : Bool). cons_option (if b then Some m else None) (kept_of i D.kept)) (sym (apart_is s.0 i (λ q. apart (sym q)))) ∙ ap (kept_of i) (sym is) ∙ kept i ∙ sym (but_away s.0 (awaited S reply P J) i apart)
+      | inr apart ↦ ap (λ (b : Bool). cons_option (if b then Some m else None) (kept_of i D.kept)) (sym (not_same s.0 i (λ q. apart (sym q)))) ∙ ap (kept_of i) (sym is) ∙ kept i ∙ sym (but_away s.0 (awaited S reply P J) i apart)
     ]),
   )
     where
       head : m ∷ kept_of s.0 D.kept ≡ awaited S reply P J s.0
-      head = ap (λ (b : Bool). cons_option (if b then Some m else None) (kept_of s.0 D.kept)) (sym (same_is s.0)) ∙ ap (kept_of s.0) (sym is) ∙ kept s.0
+      head = ap (λ (b : Bool). cons_option (if b then Some m else None) (kept_of s.0 D.kept)) (sym (same_self s.0)) ∙ ap (kept_of s.0) (sym is) ∙ kept s.0
 
       by_cases : (a b : Bool) (o : Option OpenTurn) → (view P J).open_at s.0 ≡ o → is_within S s.0 ≡ a → is_some o ≡ b → m ∷ kept_of s.0 D.kept ≡ (if a && b then reply s.0 (map bare (sent J s.0)) ∷ [] else [])
           → (is_within S s.0 ≡ true) × IsKindReply reply P J s.0 m × (kept_of s.0 D.kept ≡ [])
@@ -416,7 +403,7 @@ module _ (started : ℕ) (S : Scenario) (replies : SetupReplies) (reply : Replie
           not_nil : {X : Type 0} {x : X} {xs : List X} → x ∷ xs ≡ [] → ⊥
           not_nil e = cc
       by_cases true true None q e f h = absurd (true≢false (sym f))
-      by_cases true true (Some T) q e f h = (e, record { is = (heads h).0; open_there = λ shut. none_some (sym shut ∙ q) }, (heads h).1)
+      by_cases true true (Some T) q e f h = (e, record { is = (same_heads h).0; open_there = λ shut. none_some (sym shut ∙ q) }, (same_heads h).1)
 
       first : (is_within S s.0 ≡ true) × IsKindReply reply P J s.0 m × (kept_of s.0 D.kept ≡ [])
       first = by_cases (is_within S s.0) (is_some ((view P J).open_at s.0)) ((view P J).open_at s.0) refl refl refl head
@@ -560,3 +547,9 @@ module _ (started : ℕ) (S : Scenario) (replies : SetupReplies) (reply : Replie
       → IsRunning started S replies reply P ((J ++ Got s m ∷ []) ++ Sent s item ∷ []) log D
   answered_within J log C D s m item o run inside owes fine owed sent_so = sent_within (but s.0 (awaited S reply P J)) (J ++ Got s m ∷ []) log C D s item run inside sent_so (but_here s.0 (awaited S reply P J))
       (λ i apart. but_away s.0 (awaited S reply P J) i apart ∙ sym (awaited_got J s m i apart)) (item_leaves_open P (J ++ Got s m ∷ []) s item ((after_message P J s m owes fine).1 o owed))
+
+pub given_here : (s : ℕ) (m : Message) → given_by s m s ≡ m ∷ []
+given_here s m = ap (λ (b : Bool). if b then m ∷ [] else []) (same_self s)
+
+pub given_away : (s : ℕ) (m : Message) (i : ℕ) → (i ≡ s → ⊥) → given_by s m i ≡ []
+given_away s m i n = ap (λ (b : Bool). if b then m ∷ [] else []) (not_same s i (λ e. n (sym e)))

@@ -11,26 +11,21 @@ use Rattle.mk_message.specs.Messages.{message_of}
 use Rattle.mk_frame.specs.Frames.{limit, frame_of, IsUnfinished, IsTooLong, BeginsWithFrame}
 use Rattle.mk_frame.proofs.OnFrames.{length-frame_of, read-frame_of}
 use Rattle.mk_run_laws.specs.Hearing.{value_in, announced, first_frame, first_message, cut, messages_heard, rest_heard, Takes, none, more}
+use Rattle.mk_base.proofs.Counts.{at_most_test, test_at_most}
 
 -- ---- the front
 
-le_true : (a b : ℕ) → a ≤ b → nat_le a b ≡ true
-le_true a b h = grind arith
-
 le_false : (a b : ℕ) → b < a → nat_le a b ≡ false
 le_false a b h = grind arith
-
-le_back : (a b : ℕ) → nat_le a b ≡ true → a ≤ b
-le_back a b h = grind arith
 
 -- bytes that begin with a frame have it as their first
 pub frame_first : (held payload rest : List ℕ) → BeginsWithFrame held payload rest → first_frame held ≡ Some (payload, rest)
 frame_first held payload rest (allowed, is) =
     let reads : announced held ≡ length payload = ap (big_number 4) is ∙ read-frame_of payload rest allowed in
     let whole : length held ≡ (4 + length payload) + length rest = ap length is ∙ length-append (frame_of payload) rest ∙ ap (λ n. n + length rest) (length-frame_of payload) in
-    let four : nat_le 4 (length held) ≡ true = le_true 4 (length held) (omega arith) in
-    let fits : nat_le (announced held) limit ≡ true = le_true (announced held) limit (omega arith) in
-    let there : nat_le (4 + announced held) (length held) ≡ true = le_true (4 + announced held) (length held) (omega arith) in
+    let four : nat_le 4 (length held) ≡ true = at_most_test 4 (length held) (omega arith) in
+    let fits : nat_le (announced held) limit ≡ true = at_most_test (announced held) limit (omega arith) in
+    let there : nat_le (4 + announced held) (length held) ≡ true = at_most_test (4 + announced held) (length held) (omega arith) in
     let head : length (big_bytes 4 (length payload)) ≡ 4 = length-bytes_high_first 4 (length payload) in
     let parts : held ≡ big_bytes 4 (length payload) ++ (payload ++ rest) = is ∙ append_assoc (big_bytes 4 (length payload)) payload rest in
     let behind : drop 4 held ≡ payload ++ rest = ap (drop 4) parts ∙ ap (λ n. drop n (big_bytes 4 (length payload) ++ (payload ++ rest))) (sym head) ∙ drop-append_seam (big_bytes 4 (length payload)) (payload ++ rest) in
@@ -44,7 +39,7 @@ frame_shorter held f e = go (nat_le 4 (length held)) (nat_le (announced held) li
   where
     go : (a b c : Bool) → nat_le 4 (length held) ≡ a → (if a && b && c then Some (take (announced held) (drop 4 held), drop (4 + announced held) held) else None) ≡ Some f → length f.1 + 4 ≤ length held
     go true true true h e =
-        let four : 4 ≤ length held = le_back 4 (length held) h in
+        let four : 4 ≤ length held = test_at_most 4 (length held) h in
         let is : drop (4 + announced held) held ≡ f.1 = ap (λ (p : List ℕ × List ℕ). p.1) (some_same e) in
         let size : length f.1 ≡ length held - (4 + announced held) = ap length (sym is) ∙ length-drop (4 + announced held) held in
         omega arith
@@ -75,7 +70,7 @@ unfinished_none held (inr (payload, fits, (later, some, is))) = elim (cases_lt (
 -- nor have bytes whose header is too long
 pub long_none : (held : List ℕ) (n : ℕ) → IsTooLong n held → first_frame held ≡ None
 long_none held n (four, reads, long) =
-    let a : nat_le 4 (length held) ≡ true = le_true 4 (length held) four in
+    let a : nat_le 4 (length held) ≡ true = at_most_test 4 (length held) four in
     let b : nat_le (announced held) limit ≡ false = le_false (announced held) limit (subst (λ m. limit < m) (sym reads) long) in
     rw (a, b) refl
 
@@ -104,7 +99,7 @@ message_shorter held f e = go (first_frame held) refl e
     go None is e = absurd (none_some e)
     go (Some g) is e = inner g (value_in (message_of g.0)) (frame_shorter held g is) e
 
-abbrev then_cut : ℕ → List ℕ → Option (Message × List ℕ) → List Message × List ℕ
+abbrev pub then_cut : ℕ → List ℕ → Option (Message × List ℕ) → List Message × List ℕ
 then_cut n held o = elim o [ None ↦ ([], held) | Some f ↦ (f.0 ∷ (cut n f.1).0, (cut n f.1).1) ]
 
 cut_some : (n k : ℕ) (held : List ℕ) (o : Option (Message × List ℕ)) → ((f : Message × List ℕ) → o ≡ Some f → cut n f.1 ≡ cut k f.1) → then_cut n held o ≡ then_cut k held o

@@ -7,7 +7,8 @@ use Rattle.mk_outside.specs.declared.fleet.LogEntry.TheVariants.{Rest}
 use Rattle.mk_run_laws.specs.Channels.{Channel, IsMoved}
 use Rattle.mk_run_laws.specs.Crews.{CrewState, channel_at, IsMovedAt, AreMoved, AreParkedAtRests, IsRestless}
 use Rattle.mk_run_laws.proofs.Moving.{moved_twice, moved_there}
-use Rattle.mk_run_laws.proofs.Stepping.{first_or_second, not_empty}
+use Rattle.mk_run_laws.proofs.Stepping.{first_or_second}
+use Rattle.mk_base.proofs.Items.{not_empty}
 
 moved_at_twice : (a b : List LogEntry) (g h : List Message) (o p q : Option Channel) → IsMovedAt a g o p → IsMovedAt b h p q → IsMovedAt (a ++ b) (g ++ h) o q
 moved_at_twice a b g h None None None one two = tt

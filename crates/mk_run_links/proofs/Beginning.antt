@@ -16,9 +16,10 @@ use Rattle.mk_scenario.specs.declared.parts.Begin.TheVariants.{Command, Connect,
 use Rattle.mk_scenario.specs.declared.parts.SimPart.{SimPart}
 use Rattle.mk_launch.specs.Starts.{link_count, links_in, place_of, places}
 use Rattle.mk_run_laws.specs.Channels.{Channel}
-use Rattle.mk_run_laws.proofs.Stepping.{same_or_not, apart_is}
 use Rattle.mk_run_links.specs.Places.{Channels, AreDistinct, at, new_channel, new_channels, without_all}
 use Rattle.mk_run_links.specs.inner.Standing.{HaveTurns}
+use Rattle.mk_base.proofs.Items.{length_map, only_one}
+use Rattle.mk_base.proofs.Counts.{not_same, same_or_not}
 
 -- ---- places
 
@@ -28,24 +29,13 @@ get_take (suc k) i x [] e = cc
 get_take (suc k) zero x (y ∷ xs) e = (omega arith, e)
 get_take (suc k) (suc i) x (y ∷ xs) e = let t = get_take k i x xs e in (omega (arith, t.0), t.1)
 
-pub only : (l : LinkNo) (o : Option LinkNo) → IsIn l (option_to_list o) → o ≡ Some l
-only l None h = absurd h
-only l (Some m) (inl e) = ap Some (sym e)
-only l (Some m) (inr h) = absurd h
-
--- what stands at a place that is there
-pub there_is : {X : Type 0} (xs : List X) (k : ℕ) (d : X) → k < length xs → get_or xs k d ≡ get_or xs k (get_or xs k d)
-there_is [] k d less = absurd (omega (arith, less))
-there_is (x ∷ xs) zero d less = refl
-there_is (x ∷ xs) (suc k) d less = there_is xs k d (omega (arith, less))
-
 -- the link at a place isn't one of those before it
 not_before : (links : List (Option LinkNo)) (k : ℕ) (l : LinkNo) → AreDistinct links → slice_get links k ≡ Some (Some l) → IsIn l (links_in (take k links)) → ⊥
 not_before links k l distinct here before =
     let o = in_flat_map option_to_list l (take k links) before in
     let i = in_at o.0 (take k links) o.1 in
     let t = get_take k i.0 o.0 links i.1 in
-    let same : i.0 ≡ k = distinct i.0 k l (t.1 ∙ ap Some (only l o.0 o.2)) here in
+    let same : i.0 ≡ k = distinct i.0 k l (t.1 ∙ ap Some (only_one l o.0 o.2)) here in
     omega (arith, same, t.0)
 
 -- one place more
@@ -81,10 +71,6 @@ places_distinct n (s ∷ sims) (suc i) zero l a b =
 places_distinct n (s ∷ sims) (suc i) (suc j) l a b = ap suc (places_distinct (n + link_count (place_of n s.begin)) sims i j l a b)
 
 -- ---- channels that begin
-
-length_map : {X Y : Type 0} (f : X → Y) (xs : List X) → length (map f xs) ≡ length xs
-length_map f [] = refl
-length_map f (x ∷ xs) = ap suc (length_map f xs)
 
 length_take : {X : Type 0} (k : ℕ) (xs : List X) → length (take k xs) ≤ k
 length_take zero xs = omega arith
@@ -197,7 +183,7 @@ still_open links k p l old mid distinct all less is some so_far =
         same : (m : LinkNo) → same_link l m ≡ true → m ≡ l
         same m e = elim (same_or_not l.0 m.0) [
           | inl q ↦ ap (λ (n : ℕ). let x : LinkNo = record { 0 = n } in x) (sym q)
-          | inr apart ↦ absurd (true≢false (sym e ∙ apart_is l.0 m.0 apart))
+          | inr apart ↦ absurd (true≢false (sym e ∙ not_same l.0 m.0 apart))
         ]
 
 pub place_open : (links : List (Option LinkNo)) (k : ℕ) (p : Option LinkNo) (old mid : List LinkNo) → AreDistinct links → Each (λ (link : LinkNo). IsIn link old) (links_in links) → k < length links → p ≡ get_or links k p

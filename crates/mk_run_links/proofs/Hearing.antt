@@ -14,7 +14,7 @@ use Rattle.mk_session.specs.declared.answers.Heard.TheVariants as heard
 use Rattle.mk_run_laws.specs.Channels.{Channel, IsMoved}
 use Rattle.mk_run_laws.specs.Crews.{CrewState, channel_at, IsMovedAt, AreMoved, AreParkedAtRests, IsRestless, IsHeard, on_link, IsUnheard, given_by}
 use Rattle.mk_run_laws.proofs.Moving.{moved_twice, last_later, moved_there, moved_back}
-use Rattle.mk_run_laws.proofs.Stepping.{first_or_second, not_empty}
+use Rattle.mk_run_laws.proofs.Stepping.{first_or_second}
 use Rattle.mk_run_laws.proofs.Waiting.{moved_on, parked_rested}
 use Rattle.mk_run_links.specs.declared.answers.LinkHalt.{LinkHalt}
 use Rattle.mk_run_links.specs.declared.answers.LinkHalt.TheVariants as halt
@@ -29,6 +29,7 @@ use Rattle.mk_run_links.specs.inner.Looks.{AreWoken, LooksAs, ListensAs, RestsAs
 use Rattle.mk_run_links.proofs.Looking.{all_woken, left_alone, nothing_by, rested_moved}
 use Rattle.mk_run_links.proofs.Marking.{marked_moved}
 use Rattle.mk_run_links.proofs.OnEntries.{no_rests, of_links_on, of_others, on_more, on_these}
+use Rattle.mk_base.proofs.Items.{not_empty}
 
 -- ---- one look
 

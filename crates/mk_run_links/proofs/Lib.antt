@@ -8,4 +8,4 @@ pub mod OnEntries
 mod OnChannels
 pub mod OnStops
 mod Sending
-mod Standing
+pub mod Standing

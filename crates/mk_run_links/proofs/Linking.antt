@@ -13,7 +13,7 @@ use Rattle.mk_session.specs.declared.answers.QueueFault.{QueueFault}
 use Rattle.mk_run_links.specs.inner.Index.{AreListed}
 use Rattle.mk_run_links.specs.inner.OneChannel.{link_of}
 use Rattle.mk_run_links.specs.Places.{Channels, IsLinked, IsSet, AreOpen, at}
-use Rattle.mk_run_links.proofs.Beginning.{only}
+use Rattle.mk_base.proofs.Items.{get_last, get_there, only_one, front_get}
 
 -- ---- a channel and its place
 
@@ -41,7 +41,7 @@ in_places : (L : Channels) (l : LinkNo) → IsIn l (links_in (map link_of L)) �
 in_places L l there =
     let o = in_flat_map option_to_list l (map link_of L) there in
     let p = in_at o.0 (map link_of L) o.1 in
-    let t = place_at L p.0 l (p.1 ∙ ap Some (only l o.0 o.2)) in
+    let t = place_at L p.0 l (p.1 ∙ ap Some (only_one l o.0 o.2)) in
     (p.0, t.0, t.1, t.2)
 
 link_in : (L : Channels) (i : ℕ) (w : Channel) → at L i ≡ Some w → IsIn w.link (links_in (map link_of L))
@@ -61,15 +61,6 @@ some_link L links some is none =
 
 -- ---- the list of the links
 
-get_front : {X : Type 0} (xs ys : List X) (i : ℕ) (x : X) → slice_get xs i ≡ Some x → slice_get (xs ++ ys) i ≡ Some x
-get_front [] ys i x e = cc
-get_front (y ∷ xs) ys zero x e = e
-get_front (y ∷ xs) ys (suc i) x e = get_front xs ys i x e
-
-get_last : {X : Type 0} (xs : List X) (y : X) → slice_get (xs ++ y ∷ []) (length xs) ≡ Some y
-get_last [] y = refl
-get_last (x ∷ xs) y = get_last xs y
-
 front_or_last : {X : Type 0} (xs : List X) (y : X) (i : ℕ) (x : X) → slice_get (xs ++ y ∷ []) i ≡ Some x → (slice_get xs i ≡ Some x) ⊎ ((i ≡ length xs) × (y ≡ x))
 front_or_last [] y zero x e = inr (refl, some_same e)
 front_or_last [] y (suc i) x e = cc
@@ -84,7 +75,7 @@ pub listed_without : (P : List (Option LinkNo)) (links : List LinkNo) (sims : Li
 listed_without P links sims a = record {
   all = a.all ∙ sym (append_nil (links_in P)) ∙ sym (flat_map_append option_to_list P (None ∷ []));
   paired = a.paired;
-  placed = λ k sim l e f. get_front P (None ∷ []) sim.0 (Some l) (a.placed k sim l e f);
+  placed = λ k sim l e f. front_get P (None ∷ []) sim.0 (Some l) (a.placed k sim l e f);
 }
 
 -- one more simulator, on this link
@@ -94,7 +85,7 @@ listed_with P links sims l s number a = record {
   paired = length-append sims (s ∷ []) ∙ ap (λ (n : ℕ). n + 1) a.paired ∙ sym (length-append links (l ∷ []));
   placed = λ k sim m e f. elim (front_or_last sims s k sim e) [
     | inl before ↦ elim (front_or_last links l k m f) [
-      | inl there ↦ get_front P (Some l ∷ []) sim.0 (Some m) (a.placed k sim m before there)
+      | inl there ↦ front_get P (Some l ∷ []) sim.0 (Some m) (a.placed k sim m before there)
       | inr last ↦ absurd (below k (length sims) (length links) (slice_get_within sims k sim before) a.paired last.0)
     ]
     | inr last ↦ elim (front_or_last links l k m f) [
@@ -116,11 +107,6 @@ pub no_sim_there : (L : Channels) (links : List LinkNo) (sims : List SimNo) (l :
 no_sim_there L links sims l a none i w there on =
     let k = in_at l links (subst (λ (xs : List LinkNo). IsIn l xs) (sym a.all) (subst (λ (m : LinkNo). IsIn m (links_in (map link_of L))) on (link_in L i w there))) in
     none k.0 k.1
-
-get_there : {X : Type 0} (xs : List X) (k : ℕ) → k < length xs → (x : X) × (slice_get xs k ≡ Some x)
-get_there [] k less = absurd (omega (arith, less))
-get_there (x ∷ xs) zero less = (x, refl)
-get_there (x ∷ xs) (suc k) less = get_there xs k (omega (arith, less))
 
 -- the place of a link is one of a simulator too
 pub listed_within : (P : List (Option LinkNo)) (links : List LinkNo) (sims : List SimNo) (k : ℕ) (l : LinkNo) → AreListed P links sims → slice_get links k ≡ Some l → k < length sims

@@ -11,7 +11,6 @@ use Rattle.mk_run_laws.specs.Channels.{Channel}
 use Rattle.mk_run_laws.specs.Crews.{CrewState, channel_at, IsMovedAt, AreMoved}
 use Rattle.mk_run_laws.proofs.Polling.{IsForeign, foreign, foreign_rest, channel_left, channel_unparked}
 use Rattle.mk_run_laws.proofs.Waiting.{moved_on}
-use Rattle.mk_run_laws.proofs.Stepping.{same_or_not}
 use Rattle.mk_outside.specs.declared.fleet.LogEntry.TheVariants.{Rest}
 use Rattle.mk_run_laws.proofs.Greeting.{moved_one}
 use Rattle.mk_run_links.specs.inner.OneChannel.{given_in, PollsAt, unparked}
@@ -20,6 +19,7 @@ use Rattle.mk_run_links.specs.Places.{IsChannelLink, Channels, IsSet, at, crew}
 use Rattle.mk_run_links.specs.inner.Looks.{AreWoken, IsWokenAt, only_by, LooksAs}
 use Rattle.mk_run_links.specs.inner.Standing.{AreApart}
 use Rattle.mk_run_links.proofs.OnEntries.{of_link}
+use Rattle.mk_base.proofs.Counts.{same_or_not}
 
 -- one channel is moved, and all others stand
 pub polled_moved : (answer : Polled) (s : ℕ) (L M : Channels) (entries : List LogEntry) → AreApart L → PollsAt answer s L entries M → AreMoved entries (only_by s (given_in answer)) (crew L) (crew M) × AreOfLinks (IsChannelLink L) entries

@@ -10,20 +10,17 @@ use Rattle.mk_launch.specs.Starts.{links_in}
 use Rattle.mk_run_laws.specs.Channels.{Channel}
 use Rattle.mk_run_laws.specs.Crews.{AreMoved, IsMovedAt}
 use Rattle.mk_run_laws.proofs.Polling.{channel_left, channel_unparked}
-use Rattle.mk_run_laws.proofs.Stepping.{same_or_not, same_is, apart_is}
 use Rattle.mk_run_links.specs.inner.Looks.{AreWokenBy, IsWokenAt, is_marked, woken_by}
 use Rattle.mk_run_links.specs.inner.OneChannel.{link_of, unparked}
 use Rattle.mk_run_links.specs.inner.Standing.{AreApart}
 use Rattle.mk_run_links.specs.Places.{Channels, at, crew}
 use Rattle.mk_run_links.proofs.Linking.{at_place, place_at}
 use Rattle.mk_run_links.proofs.Looking.{nobody}
+use Rattle.mk_base.proofs.Bools.{or_false, or_true}
+use Rattle.mk_base.proofs.Counts.{not_same, same_or_not, same_self}
 
 pub mark_at : (marks : List Bool) (k : ℕ) (d b : Bool) → k < length marks → get_or marks k d ≡ b → slice_get marks k ≡ Some b
 mark_at marks k d b less is = slice_get-get_or marks k d less ∙ ap Some is
-
-or_false : (b : Bool) → (b || false) ≡ b
-or_false true = refl
-or_false false = refl
 
 -- one more place is looked at, which isn't marked
 unmarked_more : (marks : List Bool) (links : List LinkNo) (l : LinkNo) (k : ℕ) → slice_get marks k ≡ Some false → is_marked (take (suc k) marks) links l ≡ is_marked (take k marks) links l
@@ -39,10 +36,6 @@ marked_more [] links l x k e f = cc
 marked_more (m ∷ marks) [] l x k e f = cc
 marked_more (m ∷ marks) (y ∷ links) l x zero e f = ap (λ (b : Bool). (b && same_link y l) || false) (some_same e) ∙ or_false (same_link y l) ∙ ap (λ (z : LinkNo). same_link z l) (some_same f)
 marked_more (m ∷ marks) (y ∷ links) l x (suc k) e f = ap (λ (b : Bool). (m && same_link y l) || b) (marked_more marks links l x k e f) ∙ sym (or_assoc (m && same_link y l) (is_marked (take k marks) links l) (same_link x l))
-
-or_true : (b : Bool) → (b || true) ≡ true
-or_true true = refl
-or_true false = refl
 
 unparked_again : (b : Bool) (w : Channel) → unparked (if b then unparked w else w) ≡ unparked w
 unparked_again true w = refl
@@ -75,13 +68,13 @@ module _ (k s : ℕ) (marks : List Bool) (L M N : Channels) (l : LinkNo) (apart 
       let w = on.0 in
       one.here ∙ ap (option_map unparked) (so_far s) ∙ ap (λ (o : Option Channel). option_map unparked (option_map (woken_by (take k marks) (links_in (map link_of L))) o)) on.1
       ∙ ap Some (unparked_again (is_marked (take k marks) (links_in (map link_of L)) w.link) w)
-      ∙ ap (λ (b : Bool). Some (if b then unparked w else w)) (sym (now w.link ∙ ap (λ (b : Bool). is_marked (take k marks) (links_in (map link_of L)) w.link || b) (ap (λ (m : LinkNo). same_link l m) on.2 ∙ same_is l.0) ∙ or_true (is_marked (take k marks) (links_in (map link_of L)) w.link)))
+      ∙ ap (λ (b : Bool). Some (if b then unparked w else w)) (sym (now w.link ∙ ap (λ (b : Bool). is_marked (take k marks) (links_in (map link_of L)) w.link || b) (ap (λ (m : LinkNo). same_link l m) on.2 ∙ same_self l.0) ∙ or_true (is_marked (take k marks) (links_in (map link_of L)) w.link)))
       ∙ ap (option_map (woken_by (take (suc k) marks) (links_in (map link_of L)))) (sym on.1)
 
   others_left : (i : ℕ) → (i ≡ s → ⊥) → at N i ≡ option_map (woken_by (take (suc k) marks) (links_in (map link_of L))) (at L i)
   others_left i away = one.others i away ∙ so_far i ∙ same_marks (take k marks) (take (suc k) marks) (links_in (map link_of L)) (at L i) (λ u e.
       now u.link
-      ∙ ap (λ (b : Bool). is_marked (take k marks) (links_in (map link_of L)) u.link || b) (apart_is l.0 (u.link).0 (λ q. away (apart i s u on.0 e on.1 (sym q ∙ sym (ap (λ (m : LinkNo). m.0) on.2)))))
+      ∙ ap (λ (b : Bool). is_marked (take k marks) (links_in (map link_of L)) u.link || b) (not_same l.0 (u.link).0 (λ q. away (apart i s u on.0 e on.1 (sym q ∙ sym (ap (λ (m : LinkNo). m.0) on.2)))))
       ∙ or_false (is_marked (take k marks) (links_in (map link_of L)) u.link))
 
   marked_here : AreWokenSoFar (suc k) marks L N

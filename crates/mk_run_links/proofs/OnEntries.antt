@@ -6,14 +6,13 @@ use Rattle.mk_base.proofs.Lists.{some_same}
 use Rattle.mk_outside.specs.declared.fleet.LogEntry.{LogEntry}
 use Rattle.mk_outside.specs.declared.fleet.LogEntry.TheVariants.{Heard, NotHeard, Said, NotSaid, Ended, Rest, Told, Nap}
 use Rattle.mk_outside.specs.Logs.{IsOnLink}
-use Rattle.mk_outside.proofs.OnLogs.{each-append}
 use Rattle.mk_scenario.specs.declared.parts.Scenario.{Scenario}
 use Rattle.mk_run_laws.specs.Crews.{IsRestless}
 use Rattle.mk_run_laws.specs.Handshake.{sim_link}
 use Rattle.mk_run_laws.specs.Channels.{Channel}
-use Rattle.mk_run_laws.proofs.Stepping.{not_empty}
 use Rattle.mk_run_links.specs.Entries.{AreOfLinks, AreOn, AreOnOrOfClock, IsClockless, IsNotOfClock, IsOn, IsOnOrOfClock, IsRunLink}
 use Rattle.mk_run_links.specs.Places.{IsChannelLink, Channels, at}
+use Rattle.mk_base.proofs.Items.{not_empty, each_append}
 
 -- entries of one of these links are of these
 pub of_link : (has : LinkNo → Type 0) (l : LinkNo) (entries : List LogEntry) → has l → Each (IsOnLink l) entries → AreOfLinks has entries
@@ -21,7 +20,7 @@ of_link has l [] one all = tt
 of_link has l (e ∷ entries) one all = ((l, one, all.0), of_link has l entries one all.1)
 
 pub of_links_on : (has : LinkNo → Type 0) (a b : List LogEntry) → AreOfLinks has a → AreOfLinks has b → AreOfLinks has (a ++ b)
-of_links_on has a b one two = each-append (λ (entry : LogEntry). (link : LinkNo) × has link × IsOnLink link entry) a b one two
+of_links_on has a b one two = each_append (λ (entry : LogEntry). (link : LinkNo) × has link × IsOnLink link entry) a b one two
 
 -- of others where these are among them
 pub of_others : (has had : LinkNo → Type 0) (entries : List LogEntry) → ((l : LinkNo) → has l → had l) → AreOfLinks has entries → AreOfLinks had entries
@@ -60,7 +59,7 @@ on_these has [] all = tt
 on_these has (e ∷ entries) all = (on_it has e (all.0).0 (all.0).1 (all.0).2, on_these has entries all.1)
 
 pub on_more : (has : LinkNo → Type 0) (a b : List LogEntry) → AreOn has a → AreOn has b → AreOn has (a ++ b)
-on_more has a b one two = each-append (IsOn has) a b one two
+on_more has a b one two = each_append (IsOn has) a b one two
 
 pub on_others : (has had : LinkNo → Type 0) (entries : List LogEntry) → ((l : LinkNo) → has l → had l) → AreOn has entries → AreOn had entries
 on_others has had [] all some = tt
@@ -144,4 +143,4 @@ pub of_run : (started : ℕ) (S : Scenario) (L : Channels) (entries : List LogEn
 of_run started S L entries there back = of_others (IsChannelLink L) (IsRunLink started S) entries (run_links started S L there back)
 
 pub or_clock_more : (has : LinkNo → Type 0) (a b : List LogEntry) → AreOnOrOfClock has a → AreOnOrOfClock has b → AreOnOrOfClock has (a ++ b)
-or_clock_more has a b one two = each-append (IsOnOrOfClock has) a b one two
+or_clock_more has a b one two = each_append (IsOnOrOfClock has) a b one two

@@ -11,13 +11,13 @@ use Rattle.mk_outside.specs.declared.fleet.LogEntry.{LogEntry}
 use Rattle.mk_outside.specs.declared.fleet.LogEntry.TheVariants.{Rest, NotSaid}
 use Rattle.mk_outside.specs.Counts.{HasRisen}
 use Rattle.mk_outside.specs.Logs.{Adds, heard_on, said_on, is_read, is_write}
-use Rattle.mk_outside.proofs.OnLogs.{adds_more}
+use Rattle.mk_outside.proofs.OnLogs.{adds_more, heard-append, said-append}
 use Rattle.mk_run_laws.specs.Payloads.{IsFramed}
 use Rattle.mk_run_laws.specs.Channels.{Channel, IsStopped}
 use Rattle.mk_run_laws.specs.Crews.{IsRestless}
-use Rattle.mk_run_laws.proofs.Moving.{heard_more, said_more, last_later, last_kept}
+use Rattle.mk_run_laws.proofs.Moving.{last_later, last_kept}
 use Rattle.mk_run_laws.proofs.Polling.{IsForeign, foreign, restless}
-use Rattle.mk_run_laws.proofs.Stepping.{first_or_second, not_empty, same_or_not}
+use Rattle.mk_run_laws.proofs.Stepping.{first_or_second}
 use Rattle.mk_run_links.specs.Crews.{StopsAll}
 use Rattle.mk_run_links.specs.inner.OneChannel.{FlushesChannel, StopsChannel, StopsAt}
 use Rattle.mk_run_links.specs.Entries.{AreOn}
@@ -25,6 +25,9 @@ use Rattle.mk_run_links.specs.Places.{IsChannelLink, Channels, at}
 use Rattle.mk_run_links.specs.inner.Standing.{AreApart}
 use Rattle.mk_run_links.proofs.Linking.{place_is}
 use Rattle.mk_run_links.proofs.OnEntries.{of_link, on_more, on_these}
+use Rattle.mk_base.proofs.Counts.{same_or_not}
+use Rattle.mk_base.proofs.Items.{not_empty}
+use Rattle.mk_run_links.proofs.Looking.{nobody}
 
 -- ---- the frame
 
@@ -76,8 +79,8 @@ risen_later a b c bc (inr last) = inr (omega (arith, bc, last))
 
 both : (a b : List LogEntry) (l : LinkNo) → IsForeign l a → IsForeign l b → IsForeign l (a ++ b)
 both a b l f g = record {
-  unheard = heard_more l a b ∙ ap (λ (x : List ℕ). x ++ heard_on l b) f.unheard ∙ g.unheard;
-  unsaid = said_more l a b ∙ ap (λ (x : List ℕ). x ++ said_on l b) f.unsaid ∙ g.unsaid;
+  unheard = heard-append l a b ∙ ap (λ (x : List ℕ). x ++ heard_on l b) f.unheard ∙ g.unheard;
+  unsaid = said-append l a b ∙ ap (λ (x : List ℕ). x ++ said_on l b) f.unsaid ∙ g.unsaid;
   unread = last_kept (is_read l) a b g.unread ∙ f.unread;
   unwritten = last_kept (is_write l) a b g.unwritten ∙ f.unwritten;
 }
@@ -85,9 +88,9 @@ both a b l f g = record {
 -- a stopped channel, and entries of others after it
 stopped_before : (a b : List LogEntry) (p q : Type 0) (w : Channel) → (p → q) → IsStopped a p w → IsForeign w.link b → IsStopped (a ++ b) q w
 stopped_before a b p q w on st f =
-    let same : said_on w.link (a ++ b) ≡ said_on w.link a = said_more w.link a b ∙ ap (λ (x : List ℕ). said_on w.link a ++ x) f.unsaid ∙ append_nil (said_on w.link a) in
+    let same : said_on w.link (a ++ b) ≡ said_on w.link a = said-append w.link a b ∙ ap (λ (x : List ℕ). said_on w.link a ++ x) f.unsaid ∙ append_nil (said_on w.link a) in
     record {
-      unheard = heard_more w.link a b ∙ ap (λ (x : List ℕ). x ++ heard_on w.link b) st.unheard ∙ f.unheard;
+      unheard = heard-append w.link a b ∙ ap (λ (x : List ℕ). x ++ heard_on w.link b) st.unheard ∙ f.unheard;
       said = (st.said.0, st.said.1 ∙ ap (λ (x : List ℕ). x ++ st.said.0) (sym same));
       framed = st.framed;
       whole = elim st.whole [
@@ -100,9 +103,9 @@ stopped_before a b p q w on st f =
 -- entries of others, and then a channel that is stopped
 stopped_behind : (a b : List LogEntry) (p q : Type 0) (w : Channel) → (p → q) → IsForeign w.link a → IsStopped b p w → IsStopped (a ++ b) q w
 stopped_behind a b p q w on f st =
-    let same : said_on w.link (a ++ b) ≡ said_on w.link b = said_more w.link a b ∙ ap (λ (x : List ℕ). x ++ said_on w.link b) f.unsaid in
+    let same : said_on w.link (a ++ b) ≡ said_on w.link b = said-append w.link a b ∙ ap (λ (x : List ℕ). x ++ said_on w.link b) f.unsaid in
     record {
-      unheard = heard_more w.link a b ∙ ap (λ (x : List ℕ). x ++ heard_on w.link b) f.unheard ∙ st.unheard;
+      unheard = heard-append w.link a b ∙ ap (λ (x : List ℕ). x ++ heard_on w.link b) f.unheard ∙ st.unheard;
       said = (st.said.0, st.said.1 ∙ ap (λ (x : List ℕ). x ++ st.said.0) (sym same));
       framed = st.framed;
       whole = elim st.whole [
@@ -117,9 +120,6 @@ restless_more a b one two before after is = elim (first_or_second a b before aft
   | inl t ↦ one before t.0 t.1
   | inr t ↦ two t.0 after t.2
 ]
-
-nobody : (k : LinkNo) → IsForeign k []
-nobody k = record { unheard = refl; unsaid = refl; unread = refl; unwritten = refl }
 
 -- what a stop at one place says of the other channels
 apart_from : (k : ℕ) (L : Channels) (risen : Type 0) (more : List LogEntry) → AreApart L → StopsAt k L risen more → (o : Option Channel) → at L k ≡ o → ((i : ℕ) (u : Channel) → (i ≡ k → ⊥) → at L i ≡ Some u → IsForeign u.link more) × IsRestless more × AreOn (IsChannelLink L) more

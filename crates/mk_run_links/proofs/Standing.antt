@@ -12,28 +12,26 @@ use Rattle.mk_session.specs.declared.answers.Heard.{Heard}
 use Rattle.mk_session.specs.declared.answers.Polled.{Polled}
 use Rattle.mk_session.specs.declared.answers.Polled.TheVariants as polled
 use Rattle.mk_run_laws.specs.Channels.{Channel, queued}
-use Rattle.mk_run_laws.proofs.Stepping.{same_or_not, same_is, apart_is}
 use Rattle.mk_run_links.specs.inner.OneChannel.{PollsAt, unparked}
 use Rattle.mk_run_links.specs.Places.{Channels, IsSet, at}
 use Rattle.mk_run_links.specs.inner.Standing.{HasTurn, AreApart, StandsBut, HaveTurns}
+use Rattle.mk_base.proofs.Counts.{not_same, same_or_not, same_self}
+use Rattle.mk_launch.proofs.Placing.{without_itself}
 
 same_number : (x y : LinkNo) → x.0 ≡ y.0 → x ≡ y
 same_number x y e = ap (λ (n : ℕ). let l : LinkNo = record { 0 = n } in l) e
 
-no_more : (l : LinkNo) → without l (l ∷ []) ≡ []
-no_more l = ap (λ (b : Bool). cond (not b) (l ∷ []) []) (same_is l.0)
-
 -- where one channel is set, each channel was on its link before
-pub was : (s : ℕ) (w v : Channel) (L M : Channels) → IsSet s w v L M → v.link ≡ w.link → (i : ℕ) (u : Channel) → at M i ≡ Some u → (o : Channel) × (at L i ≡ Some o) × (u.link ≡ o.link)
-was s w v L M set same i u e = elim (same_or_not i s) [
+pub set_back : (s : ℕ) (w v : Channel) (L M : Channels) → IsSet s w v L M → v.link ≡ w.link → (i : ℕ) (u : Channel) → at M i ≡ Some u → (o : Channel) × (at L i ≡ Some o) × (u.link ≡ o.link)
+set_back s w v L M set same i u e = elim (same_or_not i s) [
   | inl q ↦ (w, subst (λ (j : ℕ). at L j ≡ Some w) (sym q) set.there, ap (λ (x : Channel). x.link) (some_same (sym e ∙ ap (at M) q ∙ set.here)) ∙ same)
   | inr apart ↦ (u, sym (set.others i apart) ∙ e, refl)
 ]
 
 apart_set : (s : ℕ) (w v : Channel) (L M : Channels) → IsSet s w v L M → v.link ≡ w.link → AreApart L → AreApart M
 apart_set s w v L M set same apart i j x y ex ey e =
-    let a = was s w v L M set same i x ex in
-    let b = was s w v L M set same j y ey in
+    let a = set_back s w v L M set same i x ex in
+    let b = set_back s w v L M set same j y ey in
     apart i j a.0 b.0 a.1 b.1 (sym (ap (λ (l : LinkNo). l.0) a.2) ∙ e ∙ ap (λ (l : LinkNo). l.0) b.2)
 
 -- a channel is set, and the turns are left
@@ -61,7 +59,7 @@ pub taken_parked : (s : ℕ) (w v : Channel) (L M : Channels) (t u : Turning) (l
 taken_parked s w v L M t u l rest st first is set on same = subst (λ (x : Turning). StandsBut s M (made_parked l x)) (sym is) (record {
   apart = apart_set s w v L M set same st.apart;
   turned = λ i x apart e. still s w L t l rest st first (λ j y away there link. away (st.apart j s y w there set.there (ap (λ (k : LinkNo). k.0) (link ∙ sym on)))) i x apart (sym (set.others i apart) ∙ e);
-  none_taken = ap (λ (xs : List LinkNo). without l (xs ++ l ∷ [])) st.none_taken ∙ no_more l;
+  none_taken = ap (λ (xs : List LinkNo). without l (xs ++ l ∷ [])) st.none_taken ∙ without_itself l;
 })
 
 -- the first ready link was taken and parked, and no channel is on it
@@ -73,7 +71,7 @@ stray_parked L t u l rest st first is none = subst (λ (x : Turning). HaveTurns 
     | inl ready ↦ behind i x e (subst (λ (xs : List LinkNo). IsIn x.link xs) first ready)
     | inr parked ↦ inr (parked.0, in_front x.link t.parked (l ∷ []) parked.1)
   ];
-  none_taken = ap (λ (xs : List LinkNo). without l (xs ++ l ∷ [])) st.none_taken ∙ no_more l;
+  none_taken = ap (λ (xs : List LinkNo). without l (xs ++ l ∷ [])) st.none_taken ∙ without_itself l;
 })
   where
     behind : (i : ℕ) (x : Channel) → at L i ≡ Some x → IsIn x.link (l ∷ rest) → HasTurn (record { ready = rest; taken = []; parked = t.parked ++ l ∷ [] }) x
@@ -110,14 +108,14 @@ ready_stand s v M t l but here on = elim (list_any (λ (other : LinkNo). same_li
         let p = some_passes (λ (other : LinkNo). same_link other l) t.ready e in
         elim (same_or_not (p.0).0 l.0) [
           | inl q ↦ subst (λ (k : LinkNo). IsIn k t.ready) (same_number p.0 l q) p.1
-          | inr apart ↦ absurd (true≢false (sym p.2 ∙ apart_is (p.0).0 l.0 apart))
+          | inr apart ↦ absurd (true≢false (sym p.2 ∙ not_same (p.0).0 l.0 apart))
         ]
 
     goes_on : (u : Channel) → HasTurn t u → HasTurn moved u
     goes_on u (inl ready) = inl (in_front u.link t.ready (l ∷ []) ready)
     goes_on u (inr parked) = elim (same_or_not (u.link).0 l.0) [
       | inl q ↦ inl (in_back u.link t.ready (l ∷ []) (inl (same_number u.link l q)))
-      | inr apart ↦ inr (parked.0, filter_in (λ (other : LinkNo). not (same_link other l)) u.link t.parked parked.1 (ap not (apart_is (u.link).0 l.0 apart)))
+      | inr apart ↦ inr (parked.0, filter_in (λ (other : LinkNo). not (same_link other l)) u.link t.parked parked.1 (ap not (not_same (u.link).0 l.0 apart)))
     ]
 
 -- ---- the calls

@@ -31,12 +31,13 @@ use Rattle.mk_local.specs.Replies.{after_item, after_items, item_reply, replies}
 use Rattle.mk_local.specs.Right.{EndsRight, Fits}
 use Rattle.mk_local.specs.Rows.{IsStepTime}
 use Rattle.mk_local.specs.Simulators.{Simulator, new_simulator}
-use Rattle.mk_local.proofs.InOrder.{right_in_order, one_id}
+use Rattle.mk_local.proofs.InOrder.{right_in_order, one_id, next_id, last_behind, last_reply}
 use Rattle.mk_run_local.specs.Seen.{begun_as, first_of}
 use Rattle.mk_run_local.specs.Made.{first_at, made, kind_reply_of, no_reply}
 use Rattle.mk_run_local.specs.Laws.{FitsKinds, HasCome, KindsAreRight, RepliesAreKinds}
 use Rattle.mk_run_local.proofs.Numbers.{IsStepping, new_steps, calls_step}
 use Rattle.mk_base.specs.Limits.{latest_end}
+use Rattle.mk_run_laws.proofs.Numbering.{bare_takes}
 
 -- ---- ids
 
@@ -49,13 +50,8 @@ takes_bare (Refuse asked reason) = refl
 abbrev count_step : Bool → Item → List Item → List Item
 count_step b item items = cond b (item ∷ items) items
 
-count_bare : (items : List Item) → length (filter takes_id (map bare items)) ≡ length (filter takes_id items)
-count_bare [] = refl
-count_bare (item ∷ items) = ap (λ b. length (count_step b (bare item) (filter takes_id (map bare items)))) (takes_bare item)
-    ∙ elim (takes_id item) as (λ b. length (count_step b (bare item) (filter takes_id (map bare items))) ≡ length (count_step b item (filter takes_id items))) [ true ↦ ap suc (count_bare items) | false ↦ count_bare items ]
-
 ids_bare : (id : ℕ) (items : List Item) → id_after id (map bare items) ≡ id_after id items
-ids_bare id items = ap (λ n. id + n) (count_bare items)
+ids_bare id items = ap (λ n. id + n) (bare_takes items)
 
 -- ---- the last reply
 
@@ -71,23 +67,12 @@ after_bare L (GetData wanted) = refl
 after_bare L (Answer asked content) = refl
 after_bare L (Refuse asked reason) = refl
 
-abbrev next_id : Simulator → ℕ → Item → ℕ
-next_id L id item = cond (is_some (item_reply L id item)) (id + 1) id
-
-last_behind : (ms : List Message) (m : Message) → last_of (ms ++ m ∷ []) ≡ Some m
-last_behind [] m = refl
-last_behind (n ∷ []) m = refl
-last_behind (n ∷ k ∷ ms) m = last_behind (k ∷ ms) m
-
 -- the messages for some items and one more end with the reply to that one
 ends_with : (L : Simulator) (id : ℕ) (before : List Item) (item : Item) (m : Message) → item_reply (after_items L before) (id_after id before) item ≡ Some m → (ms : List Message) × (replies L id (before ++ item ∷ []) ≡ ms ++ m ∷ [])
 ends_with L id [] item m is = ([], ap (λ (o : Option Message). option_to_list o ++ []) (ap (λ n. item_reply L n item) (let e : id ≡ id + 0 = omega arith in e) ∙ is))
 ends_with L id (first ∷ before) item m is =
     let t = ends_with (after_item L first) (next_id L id first) before item m (ap (λ n. item_reply (after_items (after_item L first) before) n item) (one_id L id first before) ∙ is) in
     (option_to_list (item_reply L id first) ++ t.0, ap (λ (ms : List Message). option_to_list (item_reply L id first) ++ ms) t.1 ∙ sym (append_assoc (option_to_list (item_reply L id first)) t.0 (m ∷ [])))
-
-last_is : (L : Simulator) (id : ℕ) (before : List Item) (item : Item) (m : Message) → item_reply (after_items L before) (id_after id before) item ≡ Some m → last_of (replies L id (before ++ item ∷ [])) ≡ Some m
-last_is L id before item m is = let t = ends_with L id before item m is in ap (λ (l : List Message). last_of l) t.1 ∙ last_behind t.0 m
 
 items_behind : (L : Simulator) (items : List Item) (item : Item) → after_items L (items ++ item ∷ []) ≡ after_item (after_items L items) item
 items_behind L [] item = refl
@@ -104,7 +89,7 @@ module _ (rows : List Turn) (S : Scenario) (i : ℕ) where
   come_on : (items : List Item) (L : Simulator) (item : Item) (m : Message) → HasCome rows S i items L → item_reply L (id_after (setup_count S i) items) item ≡ Some m
       → (m ≡ kind_reply_of rows S i (map bare (items ++ item ∷ []))) × HasCome rows S i (items ++ item ∷ []) (after_item L item)
   come_on items L item m come is = (
-    sym (ap (kind_reply_of rows S i) (bare_behind items item) ∙ reply_made come.first (map bare items ++ bare item ∷ []) m come.begun (last_is come.first (setup_count S i) (map bare items) (bare item) m here)),
+    sym (ap (kind_reply_of rows S i) (bare_behind items item) ∙ reply_made come.first (map bare items ++ bare item ∷ []) m come.begun (last_reply come.first (setup_count S i) (map bare items) (bare item) m here)),
     record {
       first = come.first;
       begun = come.begun;

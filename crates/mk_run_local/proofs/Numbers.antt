@@ -23,6 +23,8 @@ use Rattle.mk_local.specs.Steps.{turned, entity_step, after_step}
 use Rattle.mk_local.specs.Calls.{whole_from_to, as_step, as_setting, step_in, setting_in, new_entity, init_content, create_content, unless_refused, after_call, least_setting, greatest_setting}
 use Rattle.mk_local.specs.Replies.{after_item}
 use Rattle.mk_run_local.specs.inner.Standing.{IsShortIfThere, IsFitEntity, IsFit}
+use Rattle.mk_base.proofs.Bools.{both_hold}
+use Rattle.mk_base.proofs.Items.{each_append}
 
 pub clamped_short : (n : ℤ) → FitsIn64 (clamped n)
 clamped_short (pos n) = (omega (arith, ints), omega (arith, ints))
@@ -86,10 +88,6 @@ item_fit L (Refuse asked reason) fit = fit
 
 -- ---- requests before the run
 
-both : (a b : Bool) → (a && b) ≡ true → (a ≡ true) × (b ≡ true)
-both true b e = (refl, e)
-both false b e = absurd (true≢false (sym e))
-
 -- a number that a parameter gives is within its bounds
 abbrev IsWithin : ℤ → ℤ → ℤ → Type 0
 IsWithin least most n = (least ≤ℤ n) × (n ≤ℤ most)
@@ -97,7 +95,7 @@ IsWithin least most n = (least ≤ℤ n) × (n ≤ℤ most)
 given_within : (least most : ℤ) (o : Option ℤ) (other : ℤ) → IsWithin least most other → IsWithin least most (unwrap_or (option_and_then (λ n. if int_le least n && int_le n most then Some n else None) o) other)
 given_within least most None other h = h
 given_within least most (Some n) other h = elim (int_le least n && int_le n most) as (λ b. (int_le least n && int_le n most) ≡ b → IsWithin least most (unwrap_or (cond b (Some n) None) other)) [
-  | true ↦ λ e. let t = both (int_le least n) (int_le n most) e in let low : int_le least n ≡ true = t.0 in let high : int_le n most ≡ true = t.1 in (grind (arith, ints), grind (arith, ints))
+  | true ↦ λ e. let t = both_hold (int_le least n) (int_le n most) e in let low : int_le least n ≡ true = t.0 in let high : int_le n most ≡ true = t.1 in (grind (arith, ints), grind (arith, ints))
   | false ↦ λ e. h
 ] refl
 
@@ -112,10 +110,6 @@ each_replicate : {X : Type 0} (Q : X → Type 0) (n : ℕ) (x : X) → Q x → E
 each_replicate Q zero x h = tt
 each_replicate Q (suc n) x h = (h, each_replicate Q n x h)
 
-each_both : {X : Type 0} (Q : X → Type 0) (xs ys : List X) → Each Q xs → Each Q ys → Each Q (xs ++ ys)
-each_both Q [] ys h k = k
-each_both Q (x ∷ xs) ys h k = (h.0, each_both Q xs ys h.1 k)
-
 new_fit : (setting : ℤ) → FitsIn64 setting → IsFitEntity (new_entity setting)
 new_fit setting h = record { setting = h; state = h; out = tt; at = tt }
 
@@ -127,7 +121,7 @@ refused_or Q (Err text) done same h k = k
 pub call_fit : (L : Simulator) (call : Call) → IsFit L → IsFit (after_call L call)
 call_fit L (Init sim params) fit = refused_or IsFit (init_content L.kind params) (record { kind = L.kind; step = step_in L.kind params; entities = L.entities }) L fit fit
 call_fit L (Create num model params) fit = refused_or IsFit (create_content L.kind (length L.entities) num model params) (record { kind = L.kind; step = L.step; entities = L.entities ++ replicate num (new_entity (setting_in L.kind params)) }) L
-    (each_both IsFitEntity L.entities (replicate num (new_entity (setting_in L.kind params))) fit (each_replicate IsFitEntity num (new_entity (setting_in L.kind params)) (new_fit (setting_in L.kind params) (setting_short L.kind params)))) fit
+    (each_append IsFitEntity L.entities (replicate num (new_entity (setting_in L.kind params))) fit (each_replicate IsFitEntity num (new_entity (setting_in L.kind params)) (new_fit (setting_in L.kind params) (setting_short L.kind params)))) fit
 call_fit L SetupDone fit = fit
 call_fit L Stop fit = fit
 

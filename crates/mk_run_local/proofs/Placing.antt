@@ -18,6 +18,7 @@ use Rattle.mk_run_local.specs.Calls.{IsAnswered, IsCalled, IsFitSuccess}
 use Rattle.mk_run_local.specs.inner.Standing.{IsFit, AreFit}
 use Rattle.mk_run_local.proofs.Numbers.{call_fit, call_kind, item_fit, item_kind}
 use Rattle.mk_run_local.proofs.Replying.{reply_fit}
+use Rattle.mk_base.proofs.Items.{each_behind}
 
 abbrev Sims : Type 0
 Sims = List (Option Simulator)
@@ -33,10 +34,6 @@ read_there old sims kept view i o L here is some = slice_get_read sims (length s
     low [] k h = absurd (true≢false (sym h))
     low (x ∷ xs) zero h = omega arith
     low (x ∷ xs) (suc k) h = omega (arith, low xs k h)
-
-each_behind : {X : Type 0} (Q : X → Type 0) (xs : List X) (y : X) → Each Q xs → Q y → Each Q (xs ++ y ∷ [])
-each_behind Q [] y h k = (k, tt)
-each_behind Q (x ∷ xs) y h k = (h.0, each_behind Q xs y h.1 k)
 
 module _ (old : WithinState) (sims : Sims) (kept : List Arrival) (view : all sims kept ≡ old) (i : ℕ) (L N : Simulator) (there : slice_get sims i ≡ Some (Some L)) where
   here : sim_at old i ≡ Some L

@@ -10,7 +10,7 @@ use Rattle.std.specs.declared.cmp.Ordering.TheVariants.{Less, Equal, Greater}
 use Rattle.std.specs.Cmp.Lexicographic.{slice_cmp}
 use Rattle.mk_base.specs.declared.json.Json as tree
 use Rattle.mk_base.specs.Lists.{Each, same_text, text_order}
-use Rattle.mk_base.specs.Trees.{is_in_range, in_range}
+use Rattle.mk_base.specs.Trees.{is_in_range, in_range, Member}
 use Rattle.mk_base.proofs.OnTrees.{trees_compute}
 use Rattle.mk_base.specs.Numbers.{FitsIn64}
 use Rattle.mk_json.proofs.LevelTests.{range-Object}
@@ -33,9 +33,6 @@ use Rattle.mk_local.specs.Replies.{item_reply}
 use Rattle.mk_run_local.specs.Calls.{IsFitSuccess}
 use Rattle.mk_run_local.specs.inner.Standing.{IsShortIfThere, IsFitEntity, IsFit}
 use Rattle.mk_run_local.proofs.Numbers.{clamped_short, next_short}
-
-abbrev Member : Type 0
-Member = List ℕ × tree.Json
 
 abbrev InRange : Member → Type 0
 InRange m = is_in_range m.1 ≡ true

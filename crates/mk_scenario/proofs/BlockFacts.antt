@@ -28,8 +28,9 @@ use Rattle.mk_scenario.specs.declared.parts.AttrPair.{AttrPair}
 use Rattle.mk_scenario.specs.declared.parts.Block.{Block}
 use Rattle.mk_scenario.specs.declared.blocks.Manner.{Manner}
 use Rattle.mk_scenario.specs.declared.blocks.BlockSaid.{BlockSaid}
-use Rattle.mk_scenario.proofs.ListFacts.{empty_is, each_of_map, each_then, among_in}
+use Rattle.mk_scenario.proofs.ListFacts.{empty_is, each_of_map, among_in}
 use Rattle.mk_scenario.proofs.GroupFacts.{below_chosen, place_ok, sim_of_ok}
+use Rattle.mk_base.proofs.Items.{each_then}
 
 -- the entities of a group that is there
 group_of_ok : (groups : List Group) (path id : List ℕ) (n : ℕ) → group_of_id (group_ids groups) path id ≡ Ok n → n < length groups

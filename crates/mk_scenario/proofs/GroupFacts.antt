@@ -22,7 +22,8 @@ use Rattle.mk_scenario.specs.Places.{place_in}
 use Rattle.mk_scenario.specs.declared.groups.GroupSaid.{GroupSaid}
 use Rattle.mk_scenario.specs.Wellformed.{IsWellformedGroup}
 use Rattle.mk_scenario.specs.declared.parts.Group.{Group}
-use Rattle.mk_scenario.proofs.ListFacts.{is_same, get_taken, get_default}
+use Rattle.mk_scenario.proofs.ListFacts.{get_taken}
+use Rattle.mk_base.proofs.Items.{get_default, same_text_self}
 
 pub below_chosen : (n most i : ℕ) → (if nat_lt n most then Some n else None) ≡ Some i → i < most
 below_chosen n most i e = let t = chosen_some (nat_lt n most) n i e in subst (λ k. k < most) t.1 (ltb-true n most t.0)
@@ -89,7 +90,7 @@ module _ (ids : List (List ℕ)) (tables : List Json) (groups : List Group) (all
       let s = at_group j h second in
       let there = at_in t.0 (take j tables) i (get_taken tables i j before ∙ t.1) in
       let among = filter_map_in (text_under (codes "id")) t.0 g.id (take j tables) there t.2.1 in
-      let test : same_text g.id h.id ≡ true = ap (λ u. same_text u h.id) same ∙ is_same h.id in
+      let test : same_text g.id h.id ≡ true = ap (λ u. same_text u h.id) same ∙ same_text_self h.id in
       both_ways (is_among (texts_under (codes "id") (take j tables)) h.id) s.2.2 (passes_some (λ u. same_text u h.id) g.id (texts_under (codes "id") (take j tables)) among test)
 
   pub distinct : AllPairs (λ (g h : Group). g.id ≢ h.id) groups

@@ -14,7 +14,7 @@ use Rattle.mk_scenario.specs.Scenarios.{ids_of}
 use Rattle.mk_scenario.specs.Wellformed.{AreIdsOf, IsWellformed}
 use Rattle.mk_scenario.specs.declared.parts.SimPart.{SimPart}
 use Rattle.mk_scenario.specs.declared.parts.Scenario.{Scenario}
-use Rattle.mk_scenario.proofs.ListFacts.{is_same, get_map, get_default, each_then}
+use Rattle.mk_base.proofs.Items.{get_default, get_map, same_text_self, each_then}
 
 name_byte : (b : ℕ) → (begins_name b || is_digit b) ≡ true → 47 < b
 name_byte b e = grind (arith, e)
@@ -90,7 +90,7 @@ module _ (names ids : List (List ℕ)) (named : AreIdsOf names ids) (short : len
       let parts = parts_same n.0 m.0 (decimal (others (take i names) n.0)) (decimal (others (take j names) m.0)) (bytes_at i n.0 n.1) (bytes_at j m.0 m.1) texts in
       let counts : others (take i names) n.0 ≡ others (take j names) m.0 = decimal_injective _ _ (below_most i n.0) (below_most j m.0) parts.1 in
       let counts_too : others (take j names) n.0 ≡ others (take j names) m.0 = ap (others (take j names)) parts.0 in
-      let more : others (take i names) n.0 < others (take j names) n.0 = rises (λ u. same_text u n.0) names i j n.0 before n.1 (is_same n.0) in
+      let more : others (take i names) n.0 < others (take j names) n.0 = rises (λ u. same_text u n.0) names i j n.0 before n.1 (same_text_self n.0) in
       absurd (omega arith)
 
   not_dot : (b : ℕ) → 47 < b → b ≢ 46

@@ -6,16 +6,7 @@ use Rattle.std.proofs.lemmas.List.{nil_from_length}
 use Rattle.mk_base.specs.declared.json.Json.{Json}
 use Rattle.mk_base.specs.Lists.{IsIn, Each, same_text, is_among}
 use Rattle.mk_base.proofs.Lists.{some_passes}
-
-pub is_same : (x : List ℕ) → same_text x x ≡ true
-is_same [] = refl
-is_same (a ∷ x) = and_from (nat_eq a a) (same_text x x) (eq-eqb a a refl) (is_same x)
-
-pub same_is : (x y : List ℕ) → same_text x y ≡ true → x ≡ y
-same_is [] [] h = refl
-same_is [] (b ∷ y) h = cc
-same_is (a ∷ x) [] h = cc
-same_is (a ∷ x) (b ∷ y) h = let t = and_parts (nat_eq a b) (same_text x y) h in λ i. eqb-true a b t.0 i ∷ same_is x y t.1 i
+use Rattle.mk_base.proofs.Guessing.{text_is}
 
 pub none_there : {A : Type 0} (o : Option A) → not (is_some o) ≡ true → o ≡ None
 none_there None e = refl
@@ -26,12 +17,7 @@ empty_is xs e = nil_from_length xs (eqb-true (length xs) 0 e)
 
 -- a name among these is one of them
 pub among_in : (names : List (List ℕ)) (n : List ℕ) → is_among names n ≡ true → IsIn n names
-among_in names n e = let t = some_passes (λ u. same_text u n) names e in subst (λ u. IsIn u names) (same_is t.0 n t.2) t.1
-
-pub get_map : {X Y : Type 0} (f : X → Y) (xs : List X) (i : ℕ) → slice_get (map f xs) i ≡ option_map f (slice_get xs i)
-get_map f [] i = refl
-get_map f (x ∷ xs) zero = refl
-get_map f (x ∷ xs) (suc i) = get_map f xs i
+among_in names n e = let t = some_passes (λ u. same_text u n) names e in subst (λ u. IsIn u names) (text_is t.0 n t.2) t.1
 
 pub none_also : {X Y : Type 0} (xs : List X) (ys : List Y) (i : ℕ) → length xs ≡ length ys → slice_get xs i ≡ None → slice_get ys i ≡ None
 none_also xs [] i e none = refl
@@ -45,18 +31,9 @@ get_taken [] i (suc j) h = refl
 get_taken (x ∷ xs) zero (suc j) h = refl
 get_taken (x ∷ xs) (suc i) (suc j) h = get_taken xs i j (omega arith)
 
-pub get_default : {X : Type 0} (xs : List X) (i : ℕ) (d : X) → i < length xs → slice_get xs i ≡ Some (get_or xs i d)
-get_default [] i d h = absurd (omega arith)
-get_default (x ∷ xs) zero d h = refl
-get_default (x ∷ xs) (suc i) d h = get_default xs i d (omega arith)
-
 pub each_of_map : {X Y : Type 0} (P : Y → Type 0) (f : X → Y) (xs : List X) → Each P (map f xs) → Each (λ x. P (f x)) xs
 each_of_map P f [] all = tt
 each_of_map P f (x ∷ xs) all = (all.0, each_of_map P f xs all.1)
-
-pub each_then : {X : Type 0} (P Q : X → Type 0) (xs : List X) → ((x : X) → P x → Q x) → Each P xs → Each Q xs
-each_then P Q [] f all = tt
-each_then P Q (x ∷ xs) f all = (f x all.0, each_then P Q xs f all.1)
 
 -- tables all of which have a text
 module _ (f : Json → Option (List ℕ)) where

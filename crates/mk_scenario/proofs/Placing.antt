@@ -10,6 +10,7 @@ use Rattle.std.specs.HashMap.{HashMap, get_by_text}
 use Rattle.std.specs.Map.{update}
 use Rattle.mk_base.specs.Lists.{same_text}
 use Rattle.mk_scenario.specs.inner.Places.{HasPlaces}
+use Rattle.mk_base.proofs.AtPlaces.{same_sym}
 
 at_most : {X : Type 0} (p : X → Bool) (xs : List X) → position_or_len p xs ≤ length xs
 at_most p [] = omega arith
@@ -33,9 +34,6 @@ position_push p xs y =
 pub copied_there : (found : Option (Bor ℕ)) → is_some (option_copied found) ≡ is_some found
 copied_there None = refl
 copied_there (Some n) = refl
-
-turned : (a b : List ℕ) → same_text a b ≡ same_text b a
-turned a b = same_from_decides (same_text a b) (same_text b a) (bytes_eq-Decides a b) (λ is. sym ((bytes_eq-Decides b a).0 is), λ is. (bytes_eq-Decides b a).1 (sym is))
 
 none_there : (b : Bool) (first : ℕ) → is_some (cond b (Some first) None) ≡ false → b ≡ false
 none_there true first h = h
@@ -70,6 +68,6 @@ module _ {Y S : Type 0} (places : HashMap (String Y) ℕ S) (ids : List (List �
   pub placed_new : (more : HashMap (String Y) ℕ S) → is_some (get_by_text places id) ≡ false → ((text : List ℕ) → get_by_text more text ≡ update same_text (get_by_text places) id (Some (length ids)) text) → HasPlaces more (ids ++ id ∷ [])
   placed_new more lacks put = λ text.
       added (same_text text id) (nat_lt (position_or_len (λ x. same_text text x) ids) (length ids)) (position_or_len (λ x. same_text text x) ids) (length ids) (get_by_text more text) (get_by_text places text)
-      (put text ∙ ap (λ same. cond same (Some (length ids)) (get_by_text places text)) (turned id text)) (has text)
+      (put text ∙ ap (λ same. cond same (Some (length ids)) (get_by_text places text)) (same_sym id text)) (has text)
       (λ same. none_there (nat_lt (position_or_len (λ x. same_text text x) ids) (length ids)) (position_or_len (λ x. same_text text x) ids) (ap is_some (sym (has text)) ∙ ap (λ t. is_some (get_by_text places t)) ((bytes_eq-Decides text id).0 same) ∙ lacks))
       ∙ sym (position_push (λ x. same_text text x) ids id)

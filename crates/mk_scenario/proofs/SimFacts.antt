@@ -21,8 +21,9 @@ use Rattle.mk_scenario.specs.Wellformed.{AreIdsOf, HasPort, IsWellformedSim}
 use Rattle.mk_scenario.specs.declared.parts.Begin.{Begin}
 use Rattle.mk_scenario.specs.declared.parts.Begin.TheVariants.{Command, Connect, Local}
 use Rattle.mk_scenario.specs.declared.parts.SimPart.{SimPart}
-use Rattle.mk_scenario.proofs.ListFacts.{all_kept, none_there, get_map, none_also}
+use Rattle.mk_scenario.proofs.ListFacts.{all_kept, none_there, none_also}
 use Rattle.mk_base.specs.Limits.{latest_end}
+use Rattle.mk_base.proofs.Items.{get_map}
 
 begin_ok : (path : List ℕ) (command : Option (List ℕ)) (connect : Option ℕ) (kind : Option (List ℕ)) (begin : Begin) → begin_of path command connect kind ≡ Ok begin → IfSome connect (λ port. (1 ≤ port) × (port ≤ 65535)) → HasPort begin
 begin_ok path (Some c) None None begin e p = subst HasPort (ok_same (Command c) begin e) tt

@@ -4,7 +4,7 @@ use Rattle.std.specs.List.{list_all, find}
 use Rattle.std.proofs.lemmas.Bool.{and_parts}
 use Rattle.mk_base.specs.declared.json.Json.{Json, Json-F, out-Json, map-Json}
 use Rattle.mk_base.specs.Lists.{same_text, value_under, Each}
-use Rattle.mk_base.specs.Trees.{member, items_in, is_in_range, range_step}
+use Rattle.mk_base.specs.Trees.{member, items_in, is_in_range, range_step, members_at, items_at}
 use Rattle.mk_base.proofs.FoldsAgree.{folded_out}
 use Rattle.mk_base.proofs.Lists.{none_some, some_same}
 
@@ -29,18 +29,10 @@ members_range (m ∷ ms) name v all is = at (same_text m.0 name) refl is (member
     at true e is more = ap is_in_range (sym (some_same is)) ∙ both.0
     at false e is more = more both.1 is
 
-abbrev layer_members : Json-F Json → Option (List (List ℕ × Json))
-layer_members (Json-F.Object ms) = Some ms
-layer_members _ = None
-
-abbrev layer_items : Json-F Json → Option (List Json)
-layer_items (Json-F.List js) = Some js
-layer_items _ = None
-
 member_range : (tree v : Json) (name : List ℕ) → InRange tree → member name tree ≡ Some v → InRange v
 member_range tree v name all is = at (out-Json tree) (sym (folded_out Bool range_step tree) ∙ all) is
   where
-    at : (l : Json-F Json) → range_step (map-Json Json Bool is_in_range l) ≡ true → option_and_then (value_under name) (layer_members l) ≡ Some v → InRange v
+    at : (l : Json-F Json) → range_step (map-Json Json Bool is_in_range l) ≡ true → option_and_then (value_under name) (members_at l) ≡ Some v → InRange v
     at Json-F.Null all is = absurd (none_some is)
     at (Json-F.Bool b) all is = absurd (none_some is)
     at (Json-F.Whole n) all is = absurd (none_some is)
@@ -64,7 +56,7 @@ each_range (j ∷ js) all = let t = and_parts (is_in_range j) (list_all (λ (b :
 pub items_range : (tree : Json) (js : List Json) → InRange tree → items_in tree ≡ Some js → Each InRange js
 items_range tree js all is = at (out-Json tree) (sym (folded_out Bool range_step tree) ∙ all) is
   where
-    at : (l : Json-F Json) → range_step (map-Json Json Bool is_in_range l) ≡ true → layer_items l ≡ Some js → Each InRange js
+    at : (l : Json-F Json) → range_step (map-Json Json Bool is_in_range l) ≡ true → items_at l ≡ Some js → Each InRange js
     at Json-F.Null all is = absurd (none_some is)
     at (Json-F.Bool b) all is = absurd (none_some is)
     at (Json-F.Whole n) all is = absurd (none_some is)

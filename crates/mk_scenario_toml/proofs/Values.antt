@@ -32,8 +32,3 @@ pub sorted-member_of : (es : List (String Global × Value)) → IsStrictlySorted
 unfolding IsStrictlySortedBy
 sorted-member_of [] h = tt
 sorted-member_of (e ∷ es) h = (later_names e.0 es h.0, sorted-member_of es h.1)
-
--- one more at the end passes too
-pub all_last : {X : Type 0} (p : X → Bool) (xs : List X) (x : X) → list_all p xs ≡ true → p x ≡ true → list_all p (xs ++ x ∷ []) ≡ true
-all_last p [] x all one = rw one refl
-all_last p (y ∷ ys) x all one = let t = and_parts (p y) (list_all p ys) all in and_from _ _ t.0 (all_last p ys x t.1 one)

@@ -21,7 +21,6 @@ use Rattle.mk_plan.specs.Advance.{IsAdvance}
 use Rattle.mk_order.proofs.Headlines.{orderly_finished}
 use Rattle.mk_order.proofs.Orders.{somebody_is_ready}
 use Rattle.mk_order.proofs.Past.{pending_within}
-use Rattle.mk_order.proofs.Reasons.{and_both}
 use Rattle.mk_sched_agenda.specs.Mirrors.{Mirrors}
 use Rattle.mk_sched_open.specs.Sims.{AreSimsOf}
 use Rattle.mk_sched_open.specs.Turns.{IsInRun}
@@ -38,6 +37,7 @@ use Rattle.mk_sched.specs.inner.Holding.{HasGivenUp}
 use Rattle.mk_sched.specs.inner.Derived.{IsCurrent, IsDerived, HasAdvanced, core_of, end_after_next}
 use Rattle.mk_sched.proofs.Standing.{derived_push, ended_derived, ended_given_up, failed_core}
 use Rattle.mk_base.specs.Limits.{latest_end}
+use Rattle.mk_base.proofs.Bools.{both_hold}
 
 module _ (P : Plan) (J : List Entry) (K : Derived) (derived : IsDerived P J K None) where
   pub its : IsCurrent P (view P J) (length J) K
@@ -55,7 +55,7 @@ module _ (P : Plan) (J : List Entry) (K : Derived) (derived : IsDerived P J K No
       let w = pending_within IsReady IsAdvance P (λ V s x r. r) derived.valid J derived.orderly.0 s x ready.at_pending in
       let u : P.until ≤ℤ latest_end = derived.valid.well_formed.limits.until.1 in
       let l : P.loops ≤ 1000 = derived.valid.well_formed.limits.loops.1 in
-      let t = and_both (int_lt x.time P.until) (nat_le x.tier P.loops) w.1 in
+      let t = both_hold (int_lt x.time P.until) (nat_le x.tier P.loops) w.1 in
       let e : int_lt x.time P.until ≡ true = t.0 in
       let k : x.tier ≤ P.loops = leb-true x.tier P.loops t.1 in
       record { early = w.0; late = grind (arith, ints); low = omega arith }

@@ -28,9 +28,10 @@ use Rattle.mk_plan_judge.proofs.Right.{right_data_reply, right_step_reply, right
 use Rattle.mk_plan.specs.Deliveries.{triggering_from}
 use Rattle.mk_sched_agenda.specs.Endings.{CanBeMade}
 use Rattle.mk_sched_open.specs.Turns.{IsRight, IsInRun, IsPlaceInRun, next_in}
-use Rattle.mk_sched.specs.Cores.{is_message_in_range}
 use Rattle.mk_sched.specs.inner.Derived.{IsJudged, EndsFetch, made_at}
 use Rattle.mk_base.specs.Limits.{latest_end}
+use Rattle.mk_base.proofs.Bools.{second_holds}
+use Rattle.mk_plan.specs.Messages.{is_message_in_range}
 
 module _ (P : Plan) (V : View) (s : SimNo) (m : Message) where
   pub judge : (place : Place) → place ≡ place_at (V.open_at s.0) → IsPlaceInRun place → wrong P s.0 place m ≡ None → (q : Option Place) → next_place P s.0 place m ≡ q → IsJudged P V s.0 m place q
@@ -200,9 +201,5 @@ no_member : {X : Type 0} (p : X → Bool) (xs : List X) → ((x : X) → IsIn x 
 no_member p [] none = refl
 no_member p (x ∷ xs) none = elim (p x) as (λ b. p x ≡ b → (if b then x ∷ filter p xs else filter p xs) ≡ []) [ true ↦ λ e. absurd (none x (inl refl) e) | false ↦ λ e. no_member p xs (λ y m. none y (inr m)) ] refl
 
-second_true : (a b : Bool) → (a && b) ≡ true → b ≡ true
-second_true true b e = e
-second_true false b e = absurd (true≢false (sym e))
-
 pub none_leaves : (P : Plan) (i : ℕ) → has_outputs P i ≡ false → triggering_from P i ≡ []
-none_leaves P i none = no_member (λ c. c.triggering && (owner P c.from == i)) P.conns (λ c m e. true≢false (sym (passes_some (λ c. owner P c.from == i) c P.conns m (second_true c.triggering (owner P c.from == i) e)) ∙ none))
+none_leaves P i none = no_member (λ c. c.triggering && (owner P c.from == i)) P.conns (λ c m e. true≢false (sym (passes_some (λ c. owner P c.from == i) c P.conns m (second_holds c.triggering (owner P c.from == i) e)) ∙ none))

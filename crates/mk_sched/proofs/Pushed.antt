@@ -11,24 +11,18 @@ use Rattle.mk_plan.specs.Ready.{IsReady}
 use Rattle.mk_order.proofs.Pushing.{view_push}
 use Rattle.mk_sched.specs.Answers.{SomeReady}
 use Rattle.mk_sched.specs.inner.Patient.{IsPatient}
+use Rattle.mk_base.proofs.Items.{not_empty, same_heads}
 
 -- ---- lists
 
-pub heads : {X : Type 0} {x y : X} {xs ys : List X} → x ∷ xs ≡ y ∷ ys → (x ≡ y) × (xs ≡ ys)
-heads e = (cc, cc)
-
-pub not_empty : {X : Type 0} (H more : List X) (d : X) → [] ≡ H ++ d ∷ more → ⊥
-not_empty [] more d e = cc
-not_empty (h ∷ H) more d e = cc
-
 -- what stands in a longer list is its last, or stands in the shorter
 pub last_or_before : {X : Type 0} (J : List X) (e : X) (H : List X) (d : X) (more : List X) → J ++ e ∷ [] ≡ H ++ d ∷ more → ((J ≡ H) × (e ≡ d)) ⊎ ((less : List X) × (J ≡ H ++ d ∷ less))
-last_or_before [] e [] d more q = inl (refl, (heads q).0)
-last_or_before [] e (h ∷ H) d more q = absurd (not_empty H more d (heads q).1)
-last_or_before (j ∷ J) e [] d more q = inr (J, (λ i. (heads q).0 i ∷ J))
-last_or_before (j ∷ J) e (h ∷ H) d more q = elim (last_or_before J e H d more (heads q).1) [
-  | inl t ↦ inl ((λ i. (heads q).0 i ∷ t.0 i), t.1)
-  | inr t ↦ inr (t.0, (λ i. (heads q).0 i ∷ t.1 i))
+last_or_before [] e [] d more q = inl (refl, (same_heads q).0)
+last_or_before [] e (h ∷ H) d more q = absurd (not_empty H more d (same_heads q).1)
+last_or_before (j ∷ J) e [] d more q = inr (J, (λ i. (same_heads q).0 i ∷ J))
+last_or_before (j ∷ J) e (h ∷ H) d more q = elim (last_or_before J e H d more (same_heads q).1) [
+  | inl t ↦ inl ((λ i. (same_heads q).0 i ∷ t.0 i), t.1)
+  | inr t ↦ inr (t.0, (λ i. (same_heads q).0 i ∷ t.1 i))
 ]
 
 -- ---- journals

@@ -24,7 +24,6 @@ use Rattle.mk_plan.specs.Advance.{IsAdvance}
 use Rattle.mk_order.proofs.Past.{view_right}
 use Rattle.mk_order.proofs.Pushing.{view_push, orderly_push}
 use Rattle.mk_order.proofs.RightActs as acts
-use Rattle.mk_order.proofs.Seen.{same_self}
 use Rattle.mk_sched_agenda.specs.declared.outlets.Outlet.{Outlet}
 use Rattle.mk_sched_agenda.specs.declared.outlets.Beyond.{Beyond}
 use Rattle.mk_sched_agenda.specs.Outlets.{AreOutletsOf, outlets_in}
@@ -41,6 +40,7 @@ use Rattle.mk_sched.specs.inner.Derived.{IsDerived, HasTaken, IsTaking, EndsStep
 use Rattle.mk_sched.proofs.Standing.{derived_push}
 use Rattle.mk_sched.proofs.Judged.{IsEnd, step_end, noted_right, none_leaves}
 use Rattle.mk_sched.proofs.Arrived.{its, got_allowed, the_room, no_end}
+use Rattle.mk_base.proofs.Counts.{same_self}
 
 -- ---- outlets and what is given
 

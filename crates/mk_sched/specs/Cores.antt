@@ -24,9 +24,3 @@ pub record Stands (P : Plan) (J : List Entry) : Type 0 where
   pub orderly : IsOrderly P J
   pub agrees : Agrees P J
   pub within : length J ≤ P.entries
-
--- each whole number in the message, in its content or its arguments, is one that a tree may have
-abbrev pub is_message_in_range : Message → Bool
-is_message_in_range (Ask id name args named) = list_all is_in_range args && is_in_range named
-is_message_in_range (Success id content) = is_in_range content
-is_message_in_range (Failure id text) = true

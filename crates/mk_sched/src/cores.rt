@@ -5,10 +5,11 @@ ghost use Rattle.mk_plan.specs.Plans.{IsValidPlan, sim_count};
 ghost use Rattle.mk_plan.specs.Deliveries.{supply};
 ghost use Rattle.mk_plan.specs.Journals.{view};
 ghost use Rattle.mk_buffers.specs.Bounds.{most_kept};
-ghost use Rattle.mk_sched.specs.Cores.{CoreState, Stands, is_message_in_range};
+ghost use Rattle.mk_sched.specs.Cores.{CoreState, Stands};
 ghost use Rattle.mk_sched.specs.Answers.{NextOf, ArriveOf, IsOutOfMemory, SomeReady, open_id, id_at};
 ghost use Rattle.mk_sched.specs.Holding.{IsFloor, IsHeld};
 ghost use Rattle.mk_sched.specs.inner.Derived.{end_after_next, end_after_arrive};
+ghost use Rattle.mk_plan.specs.Messages.{is_message_in_range};
 
 use crate::asking::advance;
 use crate::derived::{Derived, new_derived};

@@ -15,9 +15,9 @@ ghost use Rattle.mk_buffers.specs.Standing.{HasSameMarks};
 ghost use Rattle.mk_sched_open.specs.Turns.{IsInRun, IsRight, next_in};
 ghost use Rattle.mk_sched_supply.specs.Stock.{IsStockOf, MayComeNext};
 ghost use Rattle.mk_sched_supply.specs.Asking.{IsStepOpen};
-ghost use Rattle.mk_sched.specs.Cores.{is_message_in_range};
 ghost use Rattle.mk_sched.specs.inner.Holding.{Notes};
 ghost use Rattle.mk_sched.specs.inner.Derived.{IsDerived, HasTaken, IsTaking, IsJudged, Leaves, time_at, fault_by};
+ghost use Rattle.mk_plan.specs.Messages.{is_message_in_range};
 
 use crate::derived::Derived;
 use crate::ending::end_turn;

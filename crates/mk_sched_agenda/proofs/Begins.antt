@@ -29,9 +29,10 @@ use Rattle.mk_sched_agenda.specs.inner.Begun.{AreBegun, AreNone}
 use Rattle.mk_sched_agenda.specs.Mirrors.{flag_of}
 use Rattle.mk_sched_agenda.proofs.Queued.{added_is, least_is_least}
 use Rattle.mk_sched_agenda.proofs.Tabled.{own_here, own_else, busy_here, busy_else}
-use Rattle.mk_sched_agenda.proofs.Tidying.{same_or, AreOwn, with_own_rises, with_own_own}
-use Rattle.mk_sched_agenda.proofs.Rows.{take_get}
+use Rattle.mk_sched_agenda.proofs.Tidying.{AreOwn, with_own_rises, with_own_own}
 use Rattle.mk_base.specs.Limits.{latest_end}
+use Rattle.mk_base.proofs.Counts.{same_or_not}
+use Rattle.mk_base.proofs.Items.{take_get}
 
 -- ---- lists
 
@@ -41,12 +42,6 @@ map_more g (y ∷ ys) x = ap (λ l. g y ∷ l) (map_more g ys x)
 
 pub fold_more : {X Y Z : Type 0} (f : Z → Y → Z) (z : Z) (g : X → Y) (xs : List X) (k : ℕ) (x : X) → slice_get xs k ≡ Some x → fold f z (map g (take (k + 1) xs)) ≡ f (fold f z (map g (take k xs))) (g x)
 fold_more f z g xs k x is = ap (λ l. fold f z (map g l)) (ap (λ (n : ℕ). take n xs) (add-one k) ∙ take_get xs k x is) ∙ ap (fold f z) (map_more g (take k xs) x) ∙ fold-append f z (map g (take k xs)) (g x ∷ [])
-
-pub take_whole : {X : Type 0} (xs : List X) (k : ℕ) → length xs ≤ k → take k xs ≡ xs
-take_whole [] zero high = refl
-take_whole [] (suc k) high = refl
-take_whole (x ∷ xs) zero high = absurd (omega arith)
-take_whole (x ∷ xs) (suc k) high = ap (λ l. x ∷ l) (take_whole xs k (omega arith))
 
 -- ---- the steps with which a simulator begins
 
@@ -148,8 +143,8 @@ module _ (P : Plan) (k : ℕ) (sim : PlanSim) (there : slice_get P.sims k ≡ So
         queues = grown ∙ ap (λ (l : List (List Due)). l ++ q ∷ []) h.queues ∙ sym (ap (map (first_queue (limits_of P))) (ap (λ (n : ℕ). take n P.sims) (add-one k) ∙ take_get P.sims k sim there) ∙ map_more (first_queue (limits_of P)) (take k P.sims) sim);
         opens = ap length more ∙ length-append O (false ∷ []) ∙ omega (arith, h.opens);
         none_open = λ i. ap (λ (l : List Bool). is_open l i) more ∙ open_more O h.none_open i;
-        none_busy = λ i. elim (same_or i k) [ inl e ↦ ap (is_busy_in C) e ∙ busy_here B C k (least q) false is flag | inr n ↦ busy_else B C k (least q) false is i n ∙ h.none_busy i ];
-        starts = λ i under. elim (same_or i k) [
+        none_busy = λ i. elim (same_or_not i k) [ inl e ↦ ap (is_busy_in C) e ∙ busy_here B C k (least q) false is flag | inr n ↦ busy_else B C k (least q) false is i n ∙ h.none_busy i ];
+        starts = λ i under. elim (same_or_not i k) [
           | inl e ↦ ap (start_in C) e ∙ own_here B C k (least q) false is own ∙ sym (ap least (ap (λ (l : List (List Due)). queue_in l i) grown ∙ queue_end Q q i (e ∙ sym count)))
           | inr n ↦ own_else B C k (least q) false is own i n ∙ h.starts i (below i n under) ∙ sym (ap least (ap (λ (l : List (List Due)). queue_in l i) grown ∙ queue_front Q q i (omega (arith, below i n under, count))))
         ];

@@ -19,7 +19,7 @@ use Rattle.mk_plan.specs.Ready.{last_step, pending}
 use Rattle.mk_nextstep.specs.declared.queue.Due.{Due}
 use Rattle.mk_nextstep.specs.Queues.{time_of, added, least}
 use Rattle.mk_tiers.specs.Seen.{Seen, AreOfPlan, start_in, is_busy_in}
-use Rattle.mk_order.proofs.Reasons.{both_and, IsNextOf, pending_below}
+use Rattle.mk_order.proofs.Reasons.{IsNextOf, pending_below}
 use Rattle.mk_order.proofs.Entries.{Brings, ended_last}
 use Rattle.mk_order.proofs.Pends.{PendsWith, with_none, with_next, with_no_next, pending_is}
 use Rattle.mk_order.specs.Pending.{Pends, IsTriggeredAt, IsPendingAt, StartsOf}
@@ -36,8 +36,10 @@ use Rattle.mk_sched_agenda.specs.Endings.{given_by, IsLast, fault_of}
 use Rattle.mk_sched_agenda.specs.inner.Coming.{IsEnding, HasCome, first_beyond}
 use Rattle.mk_sched_agenda.proofs.Queued.{added_is, least_is_least}
 use Rattle.mk_sched_agenda.proofs.Tabled.{own_else, busy_here, busy_else}
-use Rattle.mk_sched_agenda.proofs.Tidying.{same_or, queue_here, queue_else}
+use Rattle.mk_sched_agenda.proofs.Tidying.{queue_here, queue_else}
 use Rattle.mk_sched_agenda.proofs.Ending.{from_of, beyond_is}
+use Rattle.mk_base.proofs.Counts.{same_or_not}
+use Rattle.mk_base.proofs.Bools.{and_holds}
 
 -- the steps to come with the next time that the act returned
 next_comes : (P : Plan) (V : View) (s : ℕ) (f : Act) (cs : List Conn) → s < sim_count P → ((y : Tier) → IsNextOf P s f y → IsTriggeredAt P V s y → IsPendingAt P V s y) → (n : Option ℤ) → n ≡ next_time f → (L : Limits) → L ≡ limits_of P → (q : List Due)
@@ -106,7 +108,7 @@ module _ (P : Plan) (J : List Entry) (s : SimNo) (T : OpenTurn) (m : Message) (x
     come_closed cs Q O B tidy there come R C are own is of = record {
       plan = of;
       count = ap length are ∙ length_set Q s.0 (next_queue A.limits (queue_in Q s.0) n) ∙ come.count;
-      queues = λ j under. subst (λ (q : List Due). PendsWith P time_of flag_of (view P J) s.0 (ended_turn T m) true cs j q) (sym (ap (λ (l : List (List Due)). queue_in l j) are)) (elim (same_or j s.0) [
+      queues = λ j under. subst (λ (q : List Due). PendsWith P time_of flag_of (view P J) s.0 (ended_turn T m) true cs j q) (sym (ap (λ (l : List (List Due)). queue_in l j) are)) (elim (same_or_not j s.0) [
         | inl e ↦ subst (λ (k : ℕ). PendsWith P time_of flag_of (view P J) s.0 (ended_turn T m) true cs k (queue_in (slice_set Q s.0 (next_queue A.limits (queue_in Q s.0) n)) k)) (sym e)
             (subst (PendsWith P time_of flag_of (view P J) s.0 (ended_turn T m) true cs s.0) (sym (queue_here Q s.0 (next_queue A.limits (queue_in Q s.0) n) there))
             (next_comes P (view P J) s.0 (ended_turn T m) cs (omega (arith, low, mirrors.plan.count)) (λ y k b. next_was_pending P h.valid J h.orderly s m T h.allowed h.opened h.right h.over y (omega (arith, low, mirrors.plan.count)) k b)
@@ -136,7 +138,7 @@ module _ (P : Plan) (J : List Entry) (s : SimNo) (T : OpenTurn) (m : Message) (x
         whole : (j : ℕ) (c : Conn) (y : Tier) → Brings P s.0 (ended_turn T m) j y c → IsIn c (triggering_from P s.0)
         whole j c y b =
             let t = brings_out P s.0 (ended_turn T m) j y c b in
-            filter_in (λ (d : Conn). d.triggering && (owner P d.from == s.0)) c P.conns t.0 (both_and c.triggering (owner P c.from == s.0) t.1 (eq-eqb (owner P c.from) s.0 b.from))
+            filter_in (λ (d : Conn). d.triggering && (owner P d.from == s.0)) c P.conns t.0 (and_holds c.triggering (owner P c.from == s.0) t.1 (eq-eqb (owner P c.from) s.0 b.from))
 
         pends : (j : ℕ) → j < sim_count P → Pends P time_of flag_of (note P (view P J) (Got s m)) j (queue_in R j)
         pends j under = queue_after P h.valid J h.orderly s m T h.allowed h.opened h.right h.over time_of flag_of (fault_is ∙ ap (option_map fault_of) fine) (triggering_from P s.0) j (queue_in R j) under (whole j) (come.queues j under)

@@ -15,7 +15,6 @@ use Rattle.mk_plan.specs.Journals.{View, Fault, LoopLimit, beyond}
 use Rattle.mk_nextstep.specs.declared.queue.Due.{Due}
 use Rattle.mk_nextstep.specs.Queues.{time_of, added}
 use Rattle.mk_tiers.specs.Seen.{Seen, AreOfPlan, start_in, is_busy_in}
-use Rattle.mk_order.proofs.Reasons.{and_both, both_and}
 use Rattle.mk_order.proofs.Limits.{IsInLimit}
 use Rattle.mk_order.proofs.Entries.{Brings, brought_within}
 use Rattle.mk_order.proofs.LoopFaults.{beyond_missing, beyond_late, beyond_within, beyond_here}
@@ -33,16 +32,17 @@ use Rattle.mk_sched_agenda.specs.Endings.{fault_of}
 use Rattle.mk_sched_agenda.specs.inner.Coming.{IsEnding, HasCome, is_beyond, beyond_over, either, first_beyond}
 use Rattle.mk_sched_agenda.proofs.Queued.{added_is}
 use Rattle.mk_sched_agenda.proofs.Tabled.{own_else, busy_here, busy_else}
-use Rattle.mk_sched_agenda.proofs.Tidying.{same_or, queue_here, queue_else}
-use Rattle.mk_sched_agenda.proofs.Rows.{take_get}
-use Rattle.mk_sched_agenda.proofs.Begins.{take_whole}
+use Rattle.mk_sched_agenda.proofs.Tidying.{queue_here, queue_else}
+use Rattle.mk_base.proofs.Counts.{same_or_not}
+use Rattle.mk_base.proofs.Bools.{and_holds, both_hold}
+use Rattle.mk_base.proofs.Items.{take_get, take_whole}
 
 -- ---- the connections of a simulator
 
 pub from_of : (P : Plan) (s : ℕ) (c : Conn) → IsIn c (triggering_from P s) → IsIn c P.conns × (c.triggering ≡ true) × (owner P c.from ≡ s)
 from_of P s c m =
     let t = in_filter (λ (d : Conn). d.triggering && (owner P d.from == s)) c P.conns m in
-    let u = and_both c.triggering (owner P c.from == s) t.1 in
+    let u = both_hold c.triggering (owner P c.from == s) t.1 in
     (t.0, u.0, eqb-true (owner P c.from) s u.1)
 
 -- ---- the trigger beyond the loop limit
@@ -100,7 +100,7 @@ module _ (Q : List (List Due)) (O : List Bool) (B : Seen) (tidy : IsTidy Q O B) 
       go : (a : Bool) → is_first x q ≡ a → (b : Bool) → is_open O i ≡ b → is_busy_in (with_trigger B O q i x) j ≡ is_busy_in B j
       go false e b h = rw e refl
       go true e true h = rw e (rw h refl)
-      go true e false h = rw e (rw h (elim (same_or j i) [
+      go true e false h = rw e (rw h (elim (same_or_not j i) [
         | inl k ↦ ap (is_busy_in (with_start B i (Some x) false)) k ∙ busy_here B (with_start B i (Some x) false) i (Some x) false refl (omega (arith, low, tidy.busies)) ∙ sym (ap (is_busy_in B) k ∙ tidy.busy i ∙ h)
         | inr n ↦ busy_else B (with_start B i (Some x) false) i (Some x) false refl j n
       ]))
@@ -131,7 +131,7 @@ module _ (P : Plan) (V : View) (s : ℕ) (f : Act) (closed : Bool) (cs : List Co
   come_more x i to b Q R O B C tidy low h grown is of = record {
     plan = of;
     count = ap length grown ∙ length_set Q i (added true x (queue_in Q i)) ∙ h.count;
-    queues = λ j under. subst (λ (q : List Due). PendsWith P time_of flag_of V s f closed (cs ++ c ∷ []) j q) (sym (ap (λ (l : List (List Due)). queue_in l j) grown)) (elim (same_or j i) [
+    queues = λ j under. subst (λ (q : List Due). PendsWith P time_of flag_of V s f closed (cs ++ c ∷ []) j q) (sym (ap (λ (l : List (List Due)). queue_in l j) grown)) (elim (same_or_not j i) [
       | inl e ↦ subst (λ (k : ℕ). PendsWith P time_of flag_of V s f closed (cs ++ c ∷ []) k (queue_in (slice_set Q i (added true x (queue_in Q i))) k)) (sym e)
           (subst (PendsWith P time_of flag_of V s f closed (cs ++ c ∷ []) i) (sym (queue_here Q i (added true x (queue_in Q i)) low))
           (with_brought P time_of flag_of V s f closed cs c i x (subst (λ (k : ℕ). Brings P s f k x c) (sym to) b) (queue_in Q i) (added true x (queue_in Q i)) (added_is true x (queue_in Q i)) (h.queues i (omega (arith, low, h.count)))))
@@ -150,10 +150,10 @@ pub brought_by : (P : Plan) (s : ℕ) (f : Act) (L : Limits) (o : Outlet) (c : C
     → (g && is_inside L (delayed x o.via)) ≡ true → Brings P s f (owner P c.to) (delayed x o.via) c
 brought_by P s f L o c x g is m given at limits on =
     let t = from_of P s c m in
-    let u = and_both g (is_inside L (delayed x o.via)) on in
+    let u = both_hold g (is_inside L (delayed x o.via)) on in
     let w = value_of P s f (output P f c.from c.from_attr) (sym given ∙ u.0) in
     let same : delayed x o.via ≡ delayed (made f) c.via = ap (λ (y : Tier). delayed y o.via) at ∙ ap (delayed (made f)) is.via in
-    let early : int_lt (delayed (made f) c.via).time P.until ≡ true = (and_both (int_lt (delayed (made f) c.via).time P.until) (nat_le (delayed (made f) c.via).tier P.loops) (sym (ap (λ (M : Limits). is_inside M (delayed x o.via)) limits ∙ ap (is_inside (limits_of P)) same) ∙ u.1)).0 in
+    let early : int_lt (delayed (made f) c.via).time P.until ≡ true = (both_hold (int_lt (delayed (made f) c.via).time P.until) (nat_le (delayed (made f) c.via).tier P.loops) (sym (ap (λ (M : Limits). is_inside M (delayed x o.via)) limits ∙ ap (is_inside (limits_of P)) same) ∙ u.1)).0 in
     subst (λ (y : Tier). Brings P s f (owner P c.to) y c) (sym same) (brings_by P s f c w.0 t.0 t.1 t.2 w.1 early)
 
 -- and no other
@@ -162,7 +162,7 @@ pub not_brought : (P : Plan) (s : ℕ) (f : Act) (L : Limits) (o : Outlet) (c : 
 not_brought P s f L o c x g kept is given at limits off j y b =
     let same : y ≡ delayed x o.via = b.is ∙ ap (delayed (made f)) (sym is.via) ∙ ap (λ (z : Tier). delayed z o.via) (sym at) in
     let inside : is_inside L (delayed x o.via) ≡ true = ap (is_inside L) (sym same) ∙ ap (λ (M : Limits). is_inside M y) limits ∙ brought_within P s f kept j y c b in
-    true≢false (sym (both_and g (is_inside L (delayed x o.via)) (given ∙ ap is_some b.given) inside) ∙ off)
+    true≢false (sym (and_holds g (is_inside L (delayed x o.via)) (given ∙ ap is_some b.given) inside) ∙ off)
 
 -- ---- one by one
 

@@ -42,9 +42,11 @@ use Rattle.mk_sched_agenda.specs.inner.Begun.{AreBegun, AreNone}
 use Rattle.mk_sched_agenda.specs.Mirrors.{AgendaState, flag_of, Mirrors}
 use Rattle.mk_sched_agenda.proofs.Queued.{least_is_least, later_is_after, least_trigger_is}
 use Rattle.mk_sched_agenda.proofs.Tabled.{first_is, nobody_is, outer_is, own_here, own_else, busy_here, busy_else}
-use Rattle.mk_sched_agenda.proofs.Tidying.{same_or, queue_here, queue_else}
-use Rattle.mk_sched_agenda.proofs.Begins.{take_whole, begun_count, begun_pends, begun_starts}
+use Rattle.mk_sched_agenda.proofs.Tidying.{queue_here, queue_else}
+use Rattle.mk_sched_agenda.proofs.Begins.{begun_count, begun_pends, begun_starts}
 use Rattle.mk_base.specs.Limits.{latest_end}
+use Rattle.mk_base.proofs.Items.{in_all, take_whole}
+use Rattle.mk_base.proofs.Counts.{same_or_not}
 
 -- ---- the beginning
 
@@ -187,14 +189,14 @@ module _ (P : Plan) (V : View) (A : AgendaState) (O : List Bool) (mirrors : Mirr
       → Mirrors P (note_sent P V s (Step x ins advance)) (let E : AgendaState = record { limits = A.limits; outlets = A.outlets; queues = R; lasts = lasts; bounds = B } in E)
   step_mirrors R B lasts kept moved are is of = record {
     plan = record { limits = mirrors.plan.limits; count = ap length are ∙ length_set A.queues s (later (queue_in A.queues s)) ∙ mirrors.plan.count; outlets = mirrors.plan.outlets; bounds = of };
-    queues = λ i under. elim (same_or i s) [
+    queues = λ i under. elim (same_or_not i s) [
       | inl e ↦ subst (λ (j : ℕ). Pends P time_of flag_of (note_sent P V s (Step x ins advance)) j (queue_in R j)) (sym e)
           (subst (Pends P time_of flag_of (note_sent P V s (Step x ins advance)) s) (sym (ap (λ (l : List (List Due)). queue_in l s) are ∙ queue_here A.queues s (later (queue_in A.queues s)) low))
           (pends_step P time_of flag_of V s x ins advance (queue_in A.queues s) (later (queue_in A.queues s)) ready (later_is_after (queue_in A.queues s) x (tidy.rising s) is_least) mine))
       | inr n ↦ subst (Pends P time_of flag_of (note_sent P V s (Step x ins advance)) i) (sym (ap (λ (l : List (List Due)). queue_in l i) are ∙ queue_else A.queues s i (later (queue_in A.queues s)) n))
           (pends_step_apart P time_of flag_of V s x ins advance i (queue_in A.queues i) n (mirrors.queues i under))
     ];
-    lasts = λ i under. elim (same_or i s) [
+    lasts = λ i under. elim (same_or_not i s) [
       | inl e ↦ ap (λ (l : List (Option Tier)). last_in l i) moved ∙ ap (last_in (slice_set A.lasts s (least (queue_in A.queues s)))) e ∙ last_here A.lasts s (least (queue_in A.queues s)) kept ∙ is_least
           ∙ sym (ap (last_step (note_sent P V s (Step x ins advance))) e ∙ step_last P V s x ins advance)
       | inr n ↦ ap (λ (l : List (Option Tier)). last_in l i) moved ∙ last_else A.lasts s i (least (queue_in A.queues s)) n ∙ mirrors.lasts i under ∙ sym (step_last_apart P V s x ins advance i n)
@@ -210,21 +212,16 @@ module _ (P : Plan) (V : View) (A : AgendaState) (O : List Bool) (mirrors : Mirr
           (busy_here A.bounds B s (least (queue_in A.queues s)) true is (omega (arith, low, tidy.busies))) (busy_else A.bounds B s (least (queue_in A.queues s)) true is)
 
       same : (j : ℕ) → start_in B j ≡ start_in A.bounds j
-      same j = elim (same_or j s) [
+      same j = elim (same_or_not j s) [
         | inl e ↦ ap (start_in B) e ∙ own_here A.bounds B s (least (queue_in A.queues s)) true is own ∙ is_least ∙ sym ready.at_pending ∙ sym (closed_start P V s ready.closed) ∙ sym (mirrors.starts.at s) ∙ ap (start_in A.bounds) (sym e)
         | inr n ↦ own_else A.bounds B s (least (queue_in A.queues s)) true is own j n
       ]
 
 -- ---- the outlets of a simulator are sound
 
-all_of : {X : Type 0} (F : X → Type 0) (xs : List X) → ((x : X) → IsIn x xs → F x) → All F xs
-all_of F [] each k d low = absurd (omega arith)
-all_of F (x ∷ xs) each zero d low = each x (inl refl)
-all_of F (x ∷ xs) each (suc k) d low = all_of F xs (λ y m. each y (inr m)) k d (omega arith)
-
 module _ (L : Limits) (R : List (List Outlet)) (Q : List (List Due)) (S : IsSound L R Q) (i : ℕ) (os : List Outlet) (are : outlets_in R i ≡ os) where
   pub outlets_wide : All (λ (o : Outlet). HasWidth o.via) os
-  outlets_wide = all_of (λ (o : Outlet). HasWidth o.via) os (λ o m. (S.outlets i o (subst (λ (l : List Outlet). IsIn o l) (sym are) m)).1)
+  outlets_wide = in_all (λ (o : Outlet). HasWidth o.via) os (λ o m. (S.outlets i o (subst (λ (l : List Outlet). IsIn o l) (sym are) m)).1)
 
   pub outlets_sound : (T : List (List Due)) → length T ≡ length Q → All (λ (o : Outlet). (o.to.0 < length T) × HasWidth o.via) os
-  outlets_sound T same = all_of (λ (o : Outlet). (o.to.0 < length T) × HasWidth o.via) os (λ o m. let t = S.outlets i o (subst (λ (l : List Outlet). IsIn o l) (sym are) m) in (omega (arith, t.0, same), t.1))
+  outlets_sound T same = in_all (λ (o : Outlet). (o.to.0 < length T) × HasWidth o.via) os (λ o m. let t = S.outlets i o (subst (λ (l : List Outlet). IsIn o l) (sym are) m) in (omega (arith, t.0, same), t.1))

@@ -12,14 +12,11 @@ use Rattle.mk_nextstep.proofs.Queues.{triggers_rise}
 use Rattle.mk_sched_agenda.specs.Mirrors.{flag_of}
 use Rattle.mk_order.proofs.Queues.{before_is, is_before, IsAdded, IsAfter, IsLeast, IsLeastFlagged, no_flag, has_flag, first_is_least, empty_has_none, rest_is_after}
 use Rattle.mk_order.specs.Pending.{HasFlagged}
+use Rattle.mk_base.proofs.Bools.{or_second}
 
 or_true : (b c : Bool) → (b || c) ≡ true → (c ≡ true) ⊎ (b ≡ true)
 or_true true c h = inr refl
 or_true false c h = inl h
-
-true_or : (b c : Bool) → c ≡ true → (b || c) ≡ true
-true_or true c h = refl
-true_or false c h = h
 
 or_this : (b c : Bool) → b ≡ true → (b || c) ≡ true
 or_this b c h = ap (λ (a : Bool). a || c) h
@@ -79,7 +76,7 @@ module _ (b : Bool) (x : Tier) where
       first more (inr k) = let t = more k in (t.0, inr t.1, t.2, t.3)
 
       third : IsIn g (d ∷ ds) → (e : Due) × IsIn e ((let e : Due = record { at = d.at; triggered = b || d.triggered } in e) ∷ ds) × (e.at ≡ g.at) × (g.triggered ≡ true → e.triggered ≡ true)
-      third (inl q) = (record { at = d.at; triggered = b || d.triggered }, inl refl, ap (λ (d : Due). d.at) (sym q), λ h. true_or b d.triggered (ap (λ (d : Due). d.triggered) (sym q) ∙ h))
+      third (inl q) = (record { at = d.at; triggered = b || d.triggered }, inl refl, ap (λ (d : Due). d.at) (sym q), λ h. or_second b d.triggered (ap (λ (d : Due). d.triggered) (sym q) ∙ h))
       third (inr k) = (g, inr k, refl, λ h. h)
 
   heres : (ds : List Due) → (e : Due) × IsIn e (added b x ds) × (e.at ≡ x) × (b ≡ true → e.triggered ≡ true)

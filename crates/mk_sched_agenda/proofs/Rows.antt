@@ -9,12 +9,8 @@ use Rattle.mk_sched_agenda.specs.declared.outlets.Outlet.{Outlet}
 use Rattle.mk_sched_agenda.specs.Outlets.{IsOutletOf, AreOutletsOf, outlets_in}
 use Rattle.mk_plan.specs.Deliveries.{triggering_in}
 use Rattle.mk_sched_agenda.specs.inner.Outlets.{AreRowsOf}
-use Rattle.mk_sched_agenda.proofs.Tidying.{same_or}
-
-pub take_get : {X : Type 0} (xs : List X) (k : ℕ) (x : X) → slice_get xs k ≡ Some x → take (suc k) xs ≡ take k xs ++ x ∷ []
-take_get [] k x is = cc
-take_get (y ∷ ys) zero x is = ap (λ z. z ∷ []) (some_same is)
-take_get (y ∷ ys) (suc k) x is = ap (λ l. y ∷ l) (take_get ys k x is)
+use Rattle.mk_base.proofs.Items.{take_get}
+use Rattle.mk_base.proofs.Counts.{same_or_not}
 
 pub filter_more : {X : Type 0} (p : X → Bool) (xs : List X) (x : X) → filter p (xs ++ x ∷ []) ≡ filter p xs ++ (if p x then x ∷ [] else [])
 filter_more p [] x = elim (p x) as (λ b. (if b then x ∷ [] else []) ≡ [] ++ (if b then x ∷ [] else [])) [ true ↦ refl | false ↦ refl ]
@@ -76,7 +72,7 @@ module _ (P : Plan) where
         row = outlets_in R s ++ o ∷ []
 
         each : (i : ℕ) → i < sim_count P → AreOutletsOf P (triggering_in P i (take (k + 1) P.conns)) (outlets_in (slice_set R s row) i)
-        each i under = elim (same_or i s) [
+        each i under = elim (same_or_not i s) [
           | inl e ↦ subst (λ (os : List Outlet). AreOutletsOf P (triggering_in P i (take (k + 1) P.conns)) os) (sym (ap (outlets_in (slice_set R s row)) e ∙ outlets_here R s row (omega (arith, low, rows.count))))
               (subst (λ (cs : List Conn). AreOutletsOf P cs row) (sym (triggering_more i true (ap (λ (b : Bool). b && (s == i)) on ∙ eq-eqb s i (sym e))))
               (outlets_more (triggering_in P i (take k P.conns)) (outlets_in R s) c o (subst (λ (j : ℕ). AreOutletsOf P (triggering_in P i (take k P.conns)) (outlets_in R j)) e (rows.each i under)) is))
@@ -96,13 +92,3 @@ module _ (P : Plan) where
   -- before any connection
   pub rows_none : (R : List (List Outlet)) → length R ≡ sim_count P → ((i : ℕ) → outlets_in R i ≡ []) → AreRowsOf P 0 R
   rows_none R count none = record { count = count; each = λ i low. subst (λ (os : List Outlet). AreOutletsOf P [] os) (sym (none i)) tt }
-
-pub get_is : {X : Type 0} (xs : List X) (k : ℕ) (x : X) → k < length xs → x ≡ get_or xs k x → slice_get xs k ≡ Some x
-get_is [] k x low is = absurd (omega arith)
-get_is (y ∷ ys) zero x low is = ap Some (sym is)
-get_is (y ∷ ys) (suc k) x low is = get_is ys k x (omega arith) is
-
-pub get_or_is : {X : Type 0} (xs : List X) (k : ℕ) (d : X) → k < length xs → slice_get xs k ≡ Some (get_or xs k d)
-get_or_is [] k d low = absurd (omega arith)
-get_or_is (y ∷ ys) zero d low = refl
-get_or_is (y ∷ ys) (suc k) d low = get_or_is ys k d (omega arith)

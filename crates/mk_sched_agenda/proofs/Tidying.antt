@@ -20,9 +20,7 @@ use Rattle.mk_sched_agenda.specs.inner.Dues.{IsTidy, is_open, is_inside, with_ow
 use Rattle.mk_sched_agenda.proofs.Queued.{added_is}
 use Rattle.mk_sched_agenda.proofs.Tabled.{own_here, own_else, busy_here, busy_else, flag_here, flag_else}
 use Rattle.mk_base.specs.Limits.{latest_end}
-
-pub same_or : (j i : ℕ) → (j ≡ i) ⊎ (j ≡ i → ⊥)
-same_or j i = elim (j == i) as (λ b. (j == i) ≡ b → (j ≡ i) ⊎ (j ≡ i → ⊥)) [ true ↦ λ e. inl (eqb-true j i e) | false ↦ λ e. inr (λ q. true≢false (sym (eq-eqb j i q) ∙ e)) ] refl
+use Rattle.mk_base.proofs.Counts.{same_or_not}
 
 -- ---- queues in their list
 
@@ -112,20 +110,20 @@ module _ (Q : List (List Due)) (O : List Bool) (B : Seen) (tidy : IsTidy Q O B) 
     owns = length_set B.owns i own ∙ tidy.owns ∙ sym (length_set Q i q);
     opens = length_set O i b ∙ tidy.opens ∙ sym (length_set Q i q);
     busies = length_set B.busy i b ∙ tidy.busies ∙ sym (length_set Q i q);
-    busy = λ j. elim (same_or j i) [
+    busy = λ j. elim (same_or_not j i) [
       | inl e ↦ ap (is_busy_in C) e ∙ here ∙ sym (ap (is_open (slice_set O i b)) e ∙ flag_here O i b (omega (arith, tidy.opens)))
       | inr n ↦ busy_else B C i own b refl j n ∙ tidy.busy j ∙ sym (flag_else O i j b n)
     ];
-    starts = λ j under shut. elim (same_or j i) [
+    starts = λ j under shut. elim (same_or_not j i) [
       | inl e ↦ ap (start_in C) e ∙ own_here B C i own b refl (omega (arith, tidy.owns))
           ∙ starts (sym (flag_here O i b (omega (arith, tidy.opens))) ∙ ap (is_open (slice_set O i b)) (sym e) ∙ shut) ∙ sym (ap least (ap (queue_in (slice_set Q i q)) e ∙ queue_here Q i q low))
       | inr n ↦ own_else B C i own b refl (omega (arith, tidy.owns)) j n ∙ tidy.starts j (omega (arith, under, length_set Q i q)) (sym (flag_else O i j b n) ∙ shut) ∙ sym (ap least (queue_else Q i j q n))
     ];
-    rising = λ j. elim (same_or j i) [
+    rising = λ j. elim (same_or_not j i) [
       | inl e ↦ subst (IsRising time_of) (sym (ap (queue_in (slice_set Q i q)) e ∙ queue_here Q i q low)) rises
       | inr n ↦ subst (IsRising time_of) (sym (queue_else Q i j q n)) (tidy.rising j)
     ];
-    within = λ j. elim (same_or j i) [
+    within = λ j. elim (same_or_not j i) [
       | inl e ↦ subst AreOwn (sym (ap (queue_in (slice_set Q i q)) e ∙ queue_here Q i q low)) all
       | inr n ↦ subst AreOwn (sym (queue_else Q i j q n)) (tidy.within j)
     ];
@@ -144,15 +142,15 @@ module _ (Q : List (List Due)) (O : List Bool) (B : Seen) (tidy : IsTidy Q O B) 
     opens = tidy.opens ∙ sym (length_set Q i q);
     busies = tidy.busies ∙ sym (length_set Q i q);
     busy = tidy.busy;
-    starts = λ j under shut. tidy.starts j (omega (arith, under, length_set Q i q)) shut ∙ elim (same_or j i) [
+    starts = λ j under shut. tidy.starts j (omega (arith, under, length_set Q i q)) shut ∙ elim (same_or_not j i) [
       | inl e ↦ ap (λ (k : ℕ). least (queue_in Q k)) e ∙ sym (same (ap (is_open O) (sym e) ∙ shut)) ∙ sym (ap least (ap (queue_in (slice_set Q i q)) e ∙ queue_here Q i q low))
       | inr n ↦ sym (ap least (queue_else Q i j q n))
     ];
-    rising = λ j. elim (same_or j i) [
+    rising = λ j. elim (same_or_not j i) [
       | inl e ↦ subst (IsRising time_of) (sym (ap (queue_in (slice_set Q i q)) e ∙ queue_here Q i q low)) rises
       | inr n ↦ subst (IsRising time_of) (sym (queue_else Q i j q n)) (tidy.rising j)
     ];
-    within = λ j. elim (same_or j i) [
+    within = λ j. elim (same_or_not j i) [
       | inl e ↦ subst AreOwn (sym (ap (queue_in (slice_set Q i q)) e ∙ queue_here Q i q low)) all
       | inr n ↦ subst AreOwn (sym (queue_else Q i j q n)) (tidy.within j)
     ];
@@ -172,7 +170,7 @@ module _ (Q : List (List Due)) (O : List Bool) (B : Seen) (tidy : IsTidy Q O B) 
       }
     where
       flags : (j : ℕ) → is_open (slice_set O i false) j ≡ is_open O j
-      flags j = elim (same_or j i) [
+      flags j = elim (same_or_not j i) [
         | inl e ↦ ap (is_open (slice_set O i false)) e ∙ flag_here O i false (omega (arith, tidy.opens)) ∙ sym (ap (is_open O) e ∙ shut)
         | inr n ↦ flag_else O i j false n
       ]

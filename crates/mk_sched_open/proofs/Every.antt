@@ -21,12 +21,14 @@ use Rattle.mk_plan.specs.Inputs.{value_at}
 use Rattle.mk_plan.specs.Report.{is_step}
 use Rattle.mk_plan.specs.Sequential.{grown, response}
 use Rattle.mk_plan.specs.Journals.{View, OpenTurn, empty_view, begun, with_open, told_more, ended_turn, note_sent, note_right}
-use Rattle.mk_order.proofs.Seen.{at_self, not_same, same_self, open_after_is}
+use Rattle.mk_order.proofs.Seen.{at_self, open_after_is}
 use Rattle.mk_sched_open.specs.declared.sims.Sim.{Sim}
 use Rattle.mk_sched_open.specs.Turns.{IsRight, IsInRun, next_in}
 use Rattle.mk_sched_open.specs.Sims.{IsSimOf, IsTurn, AreSimsOf, free_id}
 use Rattle.mk_sched_open.specs.inner.Changes.{new_sim, begun_sim, gone_on, open_id, ended_sim}
 use Rattle.mk_sched_open.proofs.OneSim.{sim_more, sim_begun, sim_on, sim_ended, open_low, went, is_stepping, is_fetching}
+use Rattle.mk_base.proofs.Counts.{same_or_not, not_same, same_self}
+use Rattle.mk_base.proofs.Items.{get_map}
 
 -- ---- of a view, they depend on acts and open turns alone, and they hold in longer journals
 
@@ -41,13 +43,10 @@ sims_more P V n m sims le h = record { count = h.count; each = λ i s there. sim
 
 -- ---- one simulator moves on, and the others stay as they are
 
-same_or : (j i : ℕ) → (j ≡ i) ⊎ (j ≡ i → ⊥)
-same_or j i = elim (j == i) as (λ b. (j == i) ≡ b → (j ≡ i) ⊎ (j ≡ i → ⊥)) [ true ↦ λ e. inl (eqb-true j i e) | false ↦ λ e. inr (λ q. true≢false (sym (eq-eqb j i q) ∙ e)) ] refl
-
 module _ (P : Plan) (V W : View) (n m : ℕ) (sims : List Sim) (h : AreSimsOf P V n sims) (le : n ≤ m) (i : ℕ) (s new : Sim) (there : slice_get sims i ≡ Some s) (is : IsSimOf P (W.acts i) (W.open_at i) m i new)
     (acts : (j : ℕ) → (j ≡ i → ⊥) → W.acts j ≡ V.acts j) (opens : (j : ℕ) → (j ≡ i → ⊥) → W.open_at j ≡ V.open_at j) where
   each_set : (j : ℕ) (t : Sim) → slice_get (slice_set sims i new) j ≡ Some t → IsSimOf P (W.acts j) (W.open_at j) m j t
-  each_set j t at = elim (same_or j i) [
+  each_set j t at = elim (same_or_not j i) [
     | inl e ↦
         let same : new ≡ t = some_same (sym (set_here sims i new s there) ∙ subst (λ (k : ℕ). slice_get (slice_set sims i new) k ≡ Some t) e at) in
         subst (λ (k : ℕ). IsSimOf P (W.acts k) (W.open_at k) m k t) (sym e) (subst (λ (z : Sim). IsSimOf P (W.acts i) (W.open_at i) m i z) same is)
@@ -64,7 +63,7 @@ apart : (V : View) (i : ℕ) (o : Option OpenTurn) (j : ℕ) → (j ≡ i → �
 apart V i o j other = ap (λ (b : Bool). if b then o else V.open_at j) (not_same j i other)
 
 -- what follows a message is no Step
-answer_late : (id : ℕ) (a : AskAnswer) → is_step (item_of id a) ≡ false
+pub answer_late : (id : ℕ) (a : AskAnswer) → is_step (item_of id a) ≡ false
 answer_late id (Answered content sets) = refl
 answer_late id (Refused k) = refl
 
@@ -132,11 +131,6 @@ module _ (P : Plan) (V : View) (n : ℕ) (sims : List Sim) (h : AreSimsOf P V n 
   fetching_at x id at = (is_fetching (free_id P s (V.acts s)) n opened_turn.0 T x id opened_turn.1 at).time
 
 -- ---- before any entry
-
-get_map : {X Y : Type 0} (f : X → Y) (xs : List X) (i : ℕ) → slice_get (map f xs) i ≡ option_map f (slice_get xs i)
-get_map f [] i = refl
-get_map f (x ∷ xs) zero = refl
-get_map f (x ∷ xs) (suc i) = get_map f xs i
 
 -- before the first step of the simulator
 abbrev pub sim_of : PlanSim → Sim

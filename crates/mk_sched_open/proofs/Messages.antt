@@ -20,9 +20,9 @@ use Rattle.mk_plan.specs.Orderly.{IsOrderlySoFar}
 use Rattle.mk_plan.specs.Ready.{IsReady}
 use Rattle.mk_plan.specs.Advance.{IsAdvance}
 use Rattle.mk_order.proofs.Past.{pending_within}
-use Rattle.mk_order.proofs.Reasons.{and_both}
 use Rattle.mk_sched_open.specs.Turns.{IsRight, IsInRun}
 use Rattle.mk_base.specs.Limits.{latest_end}
+use Rattle.mk_base.proofs.Bools.{both_hold}
 
 -- a message that is right at the place of what is open is right in an open turn
 pub right_turn : (P : Plan) (V : View) (s : ℕ) (m : Message) (place : Place) (q : Option Place) → place ≡ place_at (V.open_at s) → wrong P s place m ≡ None → next_place P s place m ≡ q → (T : OpenTurn) × IsRight P V s m T q
@@ -59,7 +59,7 @@ in_run P valid J orderly s x ready =
     let w = pending_within IsReady IsAdvance P (λ V s x r. r) valid J orderly s x ready.at_pending in
     let u : P.until ≤ℤ latest_end = valid.well_formed.limits.until.1 in
     let l : P.loops ≤ 1000 = valid.well_formed.limits.loops.1 in
-    let t = and_both (int_lt x.time P.until) (nat_le x.tier P.loops) w.1 in
+    let t = both_hold (int_lt x.time P.until) (nat_le x.tier P.loops) w.1 in
     let e : int_lt x.time P.until ≡ true = t.0 in
     let k : x.tier ≤ P.loops = leb-true x.tier P.loops t.1 in
     record { early = w.0; late = grind (arith, ints); low = omega arith }

@@ -19,15 +19,7 @@ use Rattle.mk_plan.specs.Sequential.{grown}
 use Rattle.mk_order.proofs.Entries.{outputs_after, outputs_apart, output_given, output_missing}
 use Rattle.mk_plan_judge.proofs.Taken.{wanted_sorted}
 use Rattle.mk_sched_supply.proofs.Wanting.{is_want, of_want, one_of, given_is_wanted}
-
-pub take_get : {X : Type 0} (xs : List X) (k : ℕ) (x : X) → slice_get xs k ≡ Some x → take (suc k) xs ≡ take k xs ++ x ∷ []
-take_get [] k x is = cc
-take_get (y ∷ ys) zero x is = ap (λ z. z ∷ []) (some_same is)
-take_get (y ∷ ys) (suc k) x is = ap (λ l. y ∷ l) (take_get ys k x is)
-
-pub take_all : {X : Type 0} (xs : List X) → take (length xs) xs ≡ xs
-take_all [] = refl
-take_all (x ∷ xs) = ap (λ l. x ∷ l) (take_all xs)
+use Rattle.mk_base.proofs.Items.{take_get}
 
 -- the output that a value makes
 abbrev pub made_of : Tier → Option Json → List Timed

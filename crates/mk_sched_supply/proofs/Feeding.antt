@@ -9,24 +9,19 @@ use Rattle.mk_plan.specs.declared.Conn.{Conn}
 use Rattle.mk_plan.specs.declared.PlanEntity.{PlanEntity}
 use Rattle.mk_plan.specs.declared.Want.{Want}
 use Rattle.mk_plan.specs.Plans.{owner, eid_of}
-use Rattle.mk_plan.specs.Turns.{wanted}
+use Rattle.mk_plan.specs.Turns.{wanted, want_of}
 use Rattle.mk_plan_judge.proofs.Taken.{taken_is_wanted}
 use Rattle.mk_sched_supply.specs.declared.feeds.Feed.{Feed}
-use Rattle.mk_sched_supply.specs.Stock.{ArePlaces, IsFeedOf, taken}
+use Rattle.mk_sched_supply.specs.Stock.{ArePlaces, IsFeedOf}
 use Rattle.mk_sched_supply.specs.inner.Making.{AreFeedsOf, HasNoTriggers, IsFeedSoFar, names_of}
 use Rattle.mk_plan.specs.Deliveries.{triggering_in}
-use Rattle.mk_sched_supply.proofs.Bringing.{take_all, take_get}
+use Rattle.mk_base.proofs.Counts.{not_same, same_or_not}
+use Rattle.mk_base.proofs.Items.{take_get, take_all}
 
-get_map : {X Y : Type 0} (f : X → Y) (xs : List X) (i : ℕ) (x : X) → slice_get xs i ≡ Some x → slice_get (map f xs) i ≡ Some (f x)
+pub get_map : {X Y : Type 0} (f : X → Y) (xs : List X) (i : ℕ) (x : X) → slice_get xs i ≡ Some x → slice_get (map f xs) i ≡ Some (f x)
 get_map f [] i x at = cc
 get_map f (y ∷ ys) zero x at = ap Some (ap f (some_same at))
 get_map f (y ∷ ys) (suc i) x at = get_map f ys i x at
-
-same_or : (i j : ℕ) → (i ≡ j) ⊎ (i ≡ j → ⊥)
-same_or i j = elim (i == j) as (λ b. (i == j) ≡ b → (i ≡ j) ⊎ (i ≡ j → ⊥)) [ true ↦ λ e. inl (eqb-true i j e) | false ↦ λ e. inr (λ q. let k : true ≡ false = sym (eq-eqb i j q) ∙ e in cc) ] refl
-
-not_eqb : (i j : ℕ) → (i ≡ j → ⊥) → (i == j) ≡ false
-not_eqb i j n = elim (i == j) as (λ b. (i == j) ≡ b → b ≡ false) [ true ↦ λ e. absurd (n (eqb-true i j e)) | false ↦ λ e. refl ] refl
 
 module _ (P : Plan) where
   module _ (k : ℕ) (c : Conn) (there : slice_get P.conns k ≡ Some c) where
@@ -37,15 +32,15 @@ module _ (P : Plan) where
     same_places : (s : ℕ) → (c.triggering && (owner P c.from == s)) ≡ false → (ps : List ℕ) → ArePlaces P s (triggering_in P s (take k P.conns)) ps → ArePlaces P s (triggering_in P s (take (k + 1) P.conns)) ps
     same_places s off ps h = subst (λ (cs : List Conn). ArePlaces P s cs ps) (sym (triggering_more s false off ∙ append_nil (triggering_in P s (take k P.conns)))) h
 
-    more_places : (s p : ℕ) → (c.triggering && (owner P c.from == s)) ≡ true → (ps : List ℕ) → slice_get (wanted P s) p ≡ Some (taken P c) → ArePlaces P s (triggering_in P s (take k P.conns)) ps → ArePlaces P s (triggering_in P s (take (k + 1) P.conns)) (ps ++ p ∷ [])
-    more_places s p on ps at h = map_append (λ p. slice_get (wanted P s) p) ps (p ∷ []) ∙ (λ i. h i ++ at i ∷ []) ∙ sym (map_append (λ c. Some (taken P c)) (triggering_in P s (take k P.conns)) (c ∷ []))
-        ∙ ap (map (λ c. Some (taken P c))) (sym (triggering_more s true on))
+    more_places : (s p : ℕ) → (c.triggering && (owner P c.from == s)) ≡ true → (ps : List ℕ) → slice_get (wanted P s) p ≡ Some (want_of P c) → ArePlaces P s (triggering_in P s (take k P.conns)) ps → ArePlaces P s (triggering_in P s (take (k + 1) P.conns)) (ps ++ p ∷ [])
+    more_places s p on ps at h = map_append (λ p. slice_get (wanted P s) p) ps (p ∷ []) ∙ (λ i. h i ++ at i ∷ []) ∙ sym (map_append (λ c. Some (want_of P c)) (triggering_in P s (take k P.conns)) (c ∷ []))
+        ∙ ap (map (λ c. Some (want_of P c))) (sym (triggering_more s true on))
 
     pub feeds_kept : (F : List Feed) → c.triggering ≡ false → AreFeedsOf P k F → AreFeedsOf P (k + 1) F
     feeds_kept F off fs = record { count = fs.count; each = λ s f at. let o = fs.each s f at in record { wants = o.wants; places = same_places s (ap (λ (b : Bool). b && (owner P c.from == s)) off) f.triggers.items o.places } }
 
     pub feeds_pushed : (F : List Feed) (s p : ℕ) (old new : Feed) → s ≡ owner P c.from → c.triggering ≡ true → slice_get F s ≡ Some old → new.wants ≡ old.wants → new.triggers.items ≡ old.triggers.items ++ p ∷ []
-        → slice_get (wanted P s) p ≡ Some (taken P c) → AreFeedsOf P k F → AreFeedsOf P (k + 1) (slice_set F s new)
+        → slice_get (wanted P s) p ≡ Some (want_of P c) → AreFeedsOf P k F → AreFeedsOf P (k + 1) (slice_set F s new)
     feeds_pushed F s p old new from on here wants grown at fs = record { count = length_set F s new ∙ fs.count; each = each }
       where
         this : IsFeedSoFar P (k + 1) s new
@@ -55,17 +50,17 @@ module _ (P : Plan) where
         }
 
         each : (r : ℕ) (f : Feed) → slice_get (slice_set F s new) r ≡ Some f → IsFeedSoFar P (k + 1) r f
-        each r f is = elim (same_or r s) [
+        each r f is = elim (same_or_not r s) [
           | inl e ↦ subst (λ (i : ℕ). IsFeedSoFar P (k + 1) i f) (sym e) (subst (IsFeedSoFar P (k + 1) s) (some_same (sym (set_here F s new old here) ∙ ap (λ (i : ℕ). slice_get (slice_set F s new) i) (sym e) ∙ is)) this)
           | inr n ↦ let o = fs.each r f (sym (set_else F s r new n) ∙ is) in
-              record { wants = o.wants; places = same_places r (ap (λ (b : Bool). b && (owner P c.from == r)) on ∙ not_eqb (owner P c.from) r (λ q. n (sym q ∙ sym from))) f.triggers.items o.places }
+              record { wants = o.wants; places = same_places r (ap (λ (b : Bool). b && (owner P c.from == r)) on ∙ not_same (owner P c.from) r (λ q. n (sym q ∙ sym from))) f.triggers.items o.places }
         ]
 
     -- what the connection takes stands among the wants
     pub conn_wanted : (s : ℕ) → s ≡ owner P c.from → IsIn (let w : Want = record { eid = eid_of P c.from; attr = c.from_attr } in w) (wanted P s)
     conn_wanted s from = taken_is_wanted P c s (at_in c P.conns k there) (sym from)
 
-    pub named_taken : (n : PlanEntity) → slice_get P.entities c.from ≡ Some n → names_of n.eid c.from_attr ≡ taken P c
+    pub named_taken : (n : PlanEntity) → slice_get P.entities c.from ≡ Some n → names_of n.eid c.from_attr ≡ want_of P c
     named_taken n at = λ i. record { eid = eid_is i; attr = c.from_attr }
       where
         eid_is : n.eid ≡ eid_of P c.from

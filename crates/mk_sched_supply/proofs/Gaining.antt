@@ -15,14 +15,15 @@ use Rattle.mk_plan.specs.Turns.{wanted, value_for}
 use Rattle.mk_plan.specs.Asks.{gives_attr}
 use Rattle.mk_plan.specs.Deliveries.{Timed, Supply}
 use Rattle.mk_plan.proofs.FullIds.{same_entity}
-use Rattle.mk_order.proofs.Reasons.{and_both, both_and}
-use Rattle.mk_order.proofs.GivenValues.{text_is}
 use Rattle.mk_buffers.specs.declared.buffers.Buffers.{Buffers}
 use Rattle.mk_buffers.specs.Held.{with_output}
 use Rattle.mk_buffers.specs.Standing.{StandFor}
 use Rattle.mk_sched_supply.specs.inner.Making.{HasGiven}
 use Rattle.mk_sched_supply.proofs.Bringing.{brought, brought_more, made_of}
-use Rattle.mk_sched_supply.proofs.Wanting.{is_want, text_itself}
+use Rattle.mk_sched_supply.proofs.Wanting.{is_want}
+use Rattle.mk_base.proofs.Bools.{and_holds, both_hold, same_truth}
+use Rattle.mk_base.proofs.Guessing.{text_is}
+use Rattle.mk_base.proofs.Items.{same_text_self}
 
 -- the buffers stand for the supply S with what the data bring for the first k wants of s
 pub record HasGained (P : Plan) (s : ℕ) (x : Tier) (content : Json) (k : ℕ) (S : Supply) (b : Buffers) : Type 0 where
@@ -31,16 +32,11 @@ pub record HasGained (P : Plan) (s : ℕ) (x : Tier) (content : Json) (k : ℕ) 
   pub outputs : (e : ℕ) (attr : List ℕ) → gives_attr P e attr ≡ true → now.outputs e attr ≡ S.outputs e attr ++ brought P s x content (take k (wanted P s)) e attr
   pub gifts : (e : ℕ) → now.gifts e ≡ S.gifts e
 
-same_bool : (a b : Bool) → (a ≡ true → b ≡ true) → (b ≡ true → a ≡ true) → a ≡ b
-same_bool true b f g = sym (f refl)
-same_bool false true f g = g refl
-same_bool false false f g = refl
-
 -- who gives an output is an entity of the plan
 giver_below : (P : Plan) → RefersInside P → (e : ℕ) (attr : List ℕ) → gives_attr P e attr ≡ true → e < length P.entities
 giver_below P refers e attr given =
     let t = some_passes (λ (c : Conn). (c.from == e) && same_text c.from_attr attr) P.conns given in
-    let u = and_both (t.0.from == e) (same_text t.0.from_attr attr) t.2 in
+    let u = both_hold (t.0.from == e) (same_text t.0.from_attr attr) t.2 in
     subst (λ (d : ℕ). d < length P.entities) (eqb-true t.0.from e u.0) (all_in (λ (c : Conn). (c.from < length P.entities) × (c.to < length P.entities)) P.conns t.0 refers.conns t.1).0
 
 -- and so is who has an owner
@@ -54,25 +50,25 @@ module _ (P : Plan) (s : ℕ) (low : s < sim_count P) (x : Tier) (content : Json
   -- the entity of the want is the one that is wanted
   same_test : (b : Buffers) (T : Supply) → StandFor P b T → (d : ℕ) → owner P d ≡ s → eid_of P d ≡ w.eid → (e : ℕ) (attr : List ℕ) → gives_attr P e attr ≡ true
       → ((e == d) && same_text attr w.attr) ≡ ((owner P e == s) && is_want (record { eid = eid_of P e; attr = attr }) w)
-  same_test b T st d owned named e attr given = same_bool _ _ there back
+  same_test b T st d owned named e attr given = same_truth _ _ there back
     where
       there : ((e == d) && same_text attr w.attr) ≡ true → ((owner P e == s) && is_want (record { eid = eid_of P e; attr = attr }) w) ≡ true
       there h =
-          let t = and_both (e == d) (same_text attr w.attr) h in
+          let t = both_hold (e == d) (same_text attr w.attr) h in
           let same : e ≡ d = eqb-true e d t.0 in
           let eid : w.eid ≡ eid_of P e = sym named ∙ ap (eid_of P) (sym same) in
           let name : w.attr ≡ attr = sym (text_is attr w.attr t.1) in
-          both_and (owner P e == s) (is_want (record { eid = eid_of P e; attr = attr }) w) (eq-eqb (owner P e) s (ap (owner P) same ∙ owned))
-          (both_and (same_text w.eid (eid_of P e)) (same_text w.attr attr) (subst (λ (t : List ℕ). same_text w.eid t ≡ true) eid (text_itself w.eid)) (subst (λ (t : List ℕ). same_text w.attr t ≡ true) name (text_itself w.attr)))
+          and_holds (owner P e == s) (is_want (record { eid = eid_of P e; attr = attr }) w) (eq-eqb (owner P e) s (ap (owner P) same ∙ owned))
+          (and_holds (same_text w.eid (eid_of P e)) (same_text w.attr attr) (subst (λ (t : List ℕ). same_text w.eid t ≡ true) eid (same_text_self w.eid)) (subst (λ (t : List ℕ). same_text w.attr t ≡ true) name (same_text_self w.attr)))
 
       back : ((owner P e == s) && is_want (record { eid = eid_of P e; attr = attr }) w) ≡ true → ((e == d) && same_text attr w.attr) ≡ true
       back h =
-          let t = and_both (owner P e == s) (is_want (record { eid = eid_of P e; attr = attr }) w) h in
-          let u = and_both (same_text w.eid (eid_of P e)) (same_text w.attr attr) t.1 in
+          let t = both_hold (owner P e == s) (is_want (record { eid = eid_of P e; attr = attr }) w) h in
+          let u = both_hold (same_text w.eid (eid_of P e)) (same_text w.attr attr) t.1 in
           let name : w.attr ≡ attr = text_is w.attr attr u.1 in
           let same : e ≡ d = same_entity P st.of_plan.valid.well_formed.names e d (giver_below P st.of_plan.valid.well_formed.references e attr given) (owned_below P d s low owned)
           (eqb-true (owner P e) s t.0 ∙ sym owned) (sym (text_is w.eid (eid_of P e) u.0) ∙ sym named) in
-          both_and (e == d) (same_text attr w.attr) (eq-eqb e d same) (subst (λ (t : List ℕ). same_text attr t ≡ true) (sym name) (text_itself attr))
+          and_holds (e == d) (same_text attr w.attr) (eq-eqb e d same) (subst (λ (t : List ℕ). same_text attr t ≡ true) (sym name) (same_text_self attr))
 
   pub gained_more : (old new : Buffers) (h : HasGained P s x content k S old) (o : Option Json) → value_for content w ≡ o → HasGiven P s x w o h.now new → HasGained P s x content (k + 1) S new
   gained_more old new h None none given = record {

@@ -11,26 +11,17 @@ use Rattle.mk_plan.specs.declared.Plan.{Plan}
 use Rattle.mk_plan.specs.declared.Conn.{Conn}
 use Rattle.mk_plan.specs.declared.Want.{Want}
 use Rattle.mk_plan.specs.Plans.{eid_of}
-use Rattle.mk_plan.specs.Turns.{wanted, value_for, wrong_data}
+use Rattle.mk_plan.specs.Turns.{wanted, value_for, wrong_data, want_of}
 use Rattle.mk_plan.specs.Acts.{Act, output, outputs_in}
 use Rattle.mk_plan_judge.proofs.Right.{right_value_is_datum}
 use Rattle.mk_sched_supply.specs.declared.feeds.Feed.{Feed}
 use Rattle.mk_sched_supply.specs.declared.outputs.Outputs.{Outputs}
 use Rattle.mk_sched_supply.specs.Outputs.{AreData, AreOutputsIn, found_values}
 use Rattle.mk_plan.specs.Deliveries.{triggering_from}
-use Rattle.mk_sched_supply.specs.Stock.{IsFeedOf, taken}
+use Rattle.mk_sched_supply.specs.Stock.{IsFeedOf}
 use Rattle.mk_sched_supply.specs.inner.Making.{are_given, is_given}
 use Rattle.mk_sched_supply.proofs.Ranging.{value_in_range}
-
--- what stands at a place of a mapped list
-map_get : {X Y : Type 0} (f : X → Y) (xs : List X) (i : ℕ) → slice_get (map f xs) i ≡ option_map f (slice_get xs i)
-map_get f [] i = refl
-map_get f (x ∷ xs) zero = refl
-map_get f (x ∷ xs) (suc i) = map_get f xs i
-
-map_through : {X Y Z : Type 0} (f : Y → Z) (g : X → Y) (xs : List X) → map f (map g xs) ≡ map (λ x. f (g x)) xs
-map_through f g [] = refl
-map_through f g (x ∷ xs) = ap (λ l. f (g x) ∷ l) (map_through f g xs)
+use Rattle.mk_base.proofs.Items.{get_map, map_map}
 
 map_alike : {X Y : Type 0} (f g : X → Y) (xs : List X) → ((x : X) → f x ≡ g x) → map f xs ≡ map g xs
 map_alike f g [] same = refl
@@ -41,8 +32,8 @@ module _ (P : Plan) (s : ℕ) (content : Json) where
   abbrev given_at : Option Want → Bool
   given_at o = unwrap_or (option_map is_some (option_map (value_for content) o)) false
 
-  flags_are : (f : Act) → outputs_in f ≡ Some content → (c : Conn) → given_at (Some (taken P c)) ≡ is_some (output P f c.from c.from_attr)
-  flags_are f is c = texts (value_for content (taken P c)) ∙ sym (ap (λ (o : Option Json). is_some (option_map text_of (option_and_then (member c.from_attr) (option_and_then (member (eid_of P c.from)) o)))) is)
+  flags_are : (f : Act) → outputs_in f ≡ Some content → (c : Conn) → given_at (Some (want_of P c)) ≡ is_some (output P f c.from c.from_attr)
+  flags_are f is c = texts (value_for content (want_of P c)) ∙ sym (ap (λ (o : Option Json). is_some (option_map text_of (option_and_then (member c.from_attr) (option_and_then (member (eid_of P c.from)) o)))) is)
     where
       texts : (o : Option Json) → is_some o ≡ is_some (option_map text_of o)
       texts None = refl
@@ -56,9 +47,9 @@ module _ (P : Plan) (s : ℕ) (content : Json) where
 
       flags : (f : Act) → outputs_in f ≡ Some content → outs.given.items ≡ map (λ c. is_some (output P f c.from c.from_attr)) (triggering_from P s)
       flags f is = given ∙ ap (λ (l : List (Option Json)). are_given l feed.triggers.items) all
-          ∙ map_alike (is_given (map (value_for content) (wanted P s))) (λ p. given_at (slice_get (wanted P s) p)) feed.triggers.items (λ p. ap (λ (o : Option (Option Json)). unwrap_or (option_map is_some o) false) (map_get (value_for content) (wanted P s) p))
-          ∙ sym (map_through given_at (λ p. slice_get (wanted P s) p) feed.triggers.items) ∙ ap (map given_at) of.places ∙ map_through given_at (λ c. Some (taken P c)) (triggering_from P s)
-          ∙ map_alike (λ c. given_at (Some (taken P c))) (λ c. is_some (output P f c.from c.from_attr)) (triggering_from P s) (flags_are f is)
+          ∙ map_alike (is_given (map (value_for content) (wanted P s))) (λ p. given_at (slice_get (wanted P s) p)) feed.triggers.items (λ p. ap (λ (o : Option (Option Json)). unwrap_or (option_map is_some o) false) (get_map (value_for content) (wanted P s) p))
+          ∙ sym (map_map given_at (λ p. slice_get (wanted P s) p) feed.triggers.items) ∙ ap (map given_at) of.places ∙ map_map given_at (λ c. Some (want_of P c)) (triggering_from P s)
+          ∙ map_alike (λ c. given_at (Some (want_of P c))) (λ c. is_some (output P f c.from c.from_attr)) (triggering_from P s) (flags_are f is)
 
 -- of data that are right each value is one that a simulator may give
 pub data_are : (P : Plan) (s : ℕ) (at : Tier) (content : Json) (values : List (Option Json)) → is_in_range content ≡ true → wrong_data (wanted P s) at content ≡ None → values ≡ map (value_for content) (wanted P s) → AreData values

@@ -20,12 +20,13 @@ use Rattle.mk_buffers.specs.declared.buffers.Buffers.{Buffers}
 use Rattle.mk_buffers.specs.Bounds.{same_source, sources, comes_late, is_late, late_of, most_kept}
 use Rattle.mk_buffers.specs.Marking.{asks_of}
 use Rattle.mk_buffers.specs.Standing.{StandFor, least_mark, mark_of}
-use Rattle.mk_buffers_log.proofs.Ascending.{and_both, and_is}
 use Rattle.mk_buffers_log.proofs.Keeping.{implied}
-use Rattle.mk_buffers.proofs.Standing.{same_from}
 use Rattle.mk_buffers.proofs.Bounding.{sum_le}
 use Rattle.mk_sched_supply.specs.declared.stock.Stock.{Stock}
 use Rattle.mk_sched_supply.specs.Stock.{IsStockOf}
+use Rattle.mk_base.proofs.Bools.{or_second, and_holds, both_hold}
+use Rattle.mk_base.proofs.Counts.{equal_same}
+use Rattle.mk_order.proofs.Supplies.{given_by}
 
 sum_same : {X : Type 0} (f g : X → ℕ) (xs : List X) → ((x : X) → IsIn x xs → f x ≡ g x) → sum_by f xs ≡ sum_by g xs
 sum_same f g [] h = refl
@@ -42,22 +43,15 @@ source_was (x ∷ xs) c m = go (λ r. source_was xs c r) (list_any (same_source 
 
 -- ---- supplies that are the same
 
-given_of : (P : Plan) (c : Conn) → IsIn c P.conns → gives_attr P c.from c.from_attr ≡ true
-given_of P c m = passes_some (λ (d : Conn). (d.from == c.from) && same_text d.from_attr c.from_attr) c P.conns m (and_is (c.from == c.from) (same_text c.from_attr c.from_attr) (same_from c.from c.from refl) ((bytes_eq-Decides c.from_attr c.from_attr).1 refl))
-
 pub most_same : (P : Plan) (S T : Supply) (m : Tier) → ((e : ℕ) (attr : List ℕ) → gives_attr P e attr ≡ true → S.outputs e attr ≡ T.outputs e attr) → most_kept P S m ≡ most_kept P T m
 most_same P S T m same = ap (λ (n : ℕ). length P.conns + length (sources P.conns) + n) (sum_same (late_of P S m) (late_of P T m) (sources P.conns)
-    (λ c r. ap (λ (l : List Timed). length (filter (λ t. is_late P m c.from c.from_attr t.at) l)) (same c.from c.from_attr (given_of P c (source_was P.conns c r)))))
+    (λ c r. ap (λ (l : List Timed). length (filter (λ t. is_late P m c.from c.from_attr t.at) l)) (same c.from c.from_attr (given_by P c (source_was P.conns c r)))))
 
 -- ---- a later least mark
 
-or_right : (a b : Bool) → b ≡ true → a || b ≡ true
-or_right true b h = refl
-or_right false b h = h
-
 or_each : (a b c d : Bool) → (a ≡ true → c ≡ true) → (b ≡ true → d ≡ true) → a || b ≡ true → c || d ≡ true
 or_each true b c d f g h = ap (λ (x : Bool). x || d) (f refl)
-or_each false b c d f g h = or_right c d (g h)
+or_each false b c d f g h = or_second c d (g h)
 
 -- what isn't up to a time isn't up to an earlier one
 still_after : (x low high : Tier) → IsUpTo low high → not (up_to x high) ≡ true → not (up_to x low) ≡ true
@@ -73,16 +67,16 @@ any_still f g cs h e = let t = some_passes f cs e in passes_some g t.0 cs t.1 (h
 module _ (P : Plan) (low high : Tier) (less : IsUpTo low high) where
   comes_still : (x : Tier) (c : Conn) → comes_late P high x c ≡ true → comes_late P low x c ≡ true
   comes_still x c h =
-      let both = and_both (not (up_to (delayed x c.via) high)) (int_lt (delayed x c.via).time P.until) h in
-      and_is (not (up_to (delayed x c.via) low)) (int_lt (delayed x c.via).time P.until) (still_after (delayed x c.via) low high less both.0) both.1
+      let both = both_hold (not (up_to (delayed x c.via) high)) (int_lt (delayed x c.via).time P.until) h in
+      and_holds (not (up_to (delayed x c.via) low)) (int_lt (delayed x c.via).time P.until) (still_after (delayed x c.via) low high less both.0) both.1
 
   still_late : (e : ℕ) (attr : List ℕ) (x : Tier) → is_late P high e attr x ≡ true → is_late P low e attr x ≡ true
   still_late e attr x = or_each (not (up_to x high)) (list_any (λ c. (c.from == e) && same_text c.from_attr attr && comes_late P high x c) P.conns)
       (not (up_to x low)) (list_any (λ c. (c.from == e) && same_text c.from_attr attr && comes_late P low x c) P.conns)
       (still_after x low high less)
       (any_still (λ c. (c.from == e) && same_text c.from_attr attr && comes_late P high x c) (λ c. (c.from == e) && same_text c.from_attr attr && comes_late P low x c) P.conns
-      (λ c h. let both = and_both ((c.from == e) && same_text c.from_attr attr) (comes_late P high x c) h in
-      and_is ((c.from == e) && same_text c.from_attr attr) (comes_late P low x c) both.0 (comes_still x c both.1)))
+      (λ c h. let both = both_hold ((c.from == e) && same_text c.from_attr attr) (comes_late P high x c) h in
+      and_holds ((c.from == e) && same_text c.from_attr attr) (comes_late P low x c) both.0 (comes_still x c both.1)))
 
   late_falls : (S : Supply) (c : Conn) → late_of P S high c ≤ late_of P S low c
   late_falls S c = implied (λ t. is_late P high c.from c.from_attr t.at) (λ t. is_late P low c.from c.from_attr t.at) (S.outputs c.from c.from_attr) (λ t m h. still_late c.from c.from_attr t.at h)
@@ -101,7 +95,7 @@ module _ (P : Plan) (b : Buffers) (S : Supply) (st : StandFor P b S) (m : Tier) 
   pub least_after : (c : Conn) → IsIn c P.conns → IsUpTo m (least_mark b)
   least_after c here =
       let refers = st.of_plan.valid.well_formed.references in
-      let asks : asks_of P (owner P c.to) ≡ true = ap (λ (t : Bool). t || list_any (λ p. p.to.0 == owner P c.to) P.asyncs) (passes_some (λ d. owner P d.to == owner P c.to) c P.conns here (same_from (owner P c.to) (owner P c.to) refl)) in
+      let asks : asks_of P (owner P c.to) ≡ true = ap (λ (t : Bool). t || list_any (λ p. p.to.0 == owner P c.to) P.asyncs) (passes_some (λ d. owner P d.to == owner P c.to) c P.conns here (equal_same (owner P c.to) (owner P c.to) refl)) in
       let on : slice_get b.marks.asks (owner P c.to) ≡ Some true = st.of_plan.asking.each (owner P c.to) (owner_is_below P refers c.to (all_in (λ (d : Conn). (d.from < length P.entities) × (d.to < length P.entities)) P.conns c refers.conns here).1) ∙ ap Some asks in
       let r = st.of_plan.least.held (owner P c.to) on in
       let there = (get_is b.marks.asks r.0 true r.1).0 in

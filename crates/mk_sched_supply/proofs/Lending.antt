@@ -18,7 +18,6 @@ use Rattle.mk_async.specs.inner.Known.{Members, lends, lends_each, permits_asked
 use Rattle.mk_async.specs.declared.request.Asked.{Asked}
 use Rattle.mk_async.specs.declared.request.Asked.TheVariants as as_asked
 use Rattle.mk_async.proofs.Entities.{entity_named}
-use Rattle.mk_async.proofs.Giving.{first_of, rest_of}
 use Rattle.mk_async.proofs.Testing.{both}
 use Rattle.mk_buffers.specs.Marking.{asks_of}
 use Rattle.mk_buffers.specs.Standing.{least_mark, mark_of}
@@ -26,10 +25,7 @@ use Rattle.mk_buffers.proofs.Standing.{least_low}
 use Rattle.mk_sched_supply.specs.Asking.{IsStepOpen}
 use Rattle.mk_sched_supply.specs.inner.Gifts.{wants_data}
 use Rattle.mk_sched_supply.specs.declared.stock.Stock.{Stock}
-
-or_true : (a b : Bool) → b ≡ true → (a || b) ≡ true
-or_true true b e = refl
-or_true false b e = e
+use Rattle.mk_base.proofs.Bools.{or_second, first_holds, second_holds}
 
 module _ (P : Plan) (s : ℕ) where
   permitted_asked : (asked : Asked) → option_map (permits P s) (asked_in asked) ≡ Some true → permits_asked P s asked ≡ true
@@ -41,11 +37,11 @@ module _ (P : Plan) (s : ℕ) where
 
   -- the second of a pair
   paired : (from : ℕ) → has_pair P from s ≡ true → (p : AsyncPair) × IsIn p P.asyncs × (p.to.0 ≡ s)
-  paired from h = let t = some_passes (λ (p : AsyncPair). (p.from.0 == from) && (p.to.0 == s)) P.asyncs h in (t.0, t.1, eqb-true t.0.to.0 s (rest_of (t.0.from.0 == from) (t.0.to.0 == s) t.2))
+  paired from h = let t = some_passes (λ (p : AsyncPair). (p.from.0 == from) && (p.to.0 == s)) P.asyncs h in (t.0, t.1, eqb-true t.0.to.0 s (second_holds (t.0.from.0 == from) (t.0.to.0 == s) t.2))
 
   paired_asks : (from : ℕ) → has_pair P from s ≡ true → asks_of P s ≡ true
   paired_asks from h = let t = some_passes (λ (p : AsyncPair). (p.from.0 == from) && (p.to.0 == s)) P.asyncs h in
-      or_true (list_any (λ c. owner P c.to == s) P.conns) (list_any (λ p. p.to.0 == s) P.asyncs) (passes_some (λ (p : AsyncPair). p.to.0 == s) t.0 P.asyncs t.1 (rest_of (t.0.from.0 == from) (t.0.to.0 == s) t.2))
+      or_second (list_any (λ c. owner P c.to == s) P.conns) (list_any (λ p. p.to.0 == s) P.asyncs) (passes_some (λ (p : AsyncPair). p.to.0 == s) t.0 P.asyncs t.1 (second_holds (t.0.from.0 == from) (t.0.to.0 == s) t.2))
 
   paired_below : RefersInside P → (from : ℕ) → has_pair P from s ≡ true → s < length P.sims
   paired_below refers from h = let t = paired from h in subst (λ (n : ℕ). n < length P.sims) t.2 (all_in (λ (p : AsyncPair). (p.from.0 < length P.sims) × (p.to.0 < length P.sims)) P.asyncs t.0 refers.asyncs t.1).1
@@ -53,7 +49,7 @@ module _ (P : Plan) (s : ℕ) where
   -- some simulator lends to s
   lent : (ms : Members) → 0 < length ms → lends_each P s ms ≡ true → (from : ℕ) × (has_pair P from s ≡ true)
   lent [] few h = absurd (omega arith)
-  lent (m ∷ ms) few h = let e = entity_named P m.0 (λ e. has_pair P (owner P e) s) (first_of (lends P s m.0) (lends_each P s ms) h) in (owner P e.0, e.2)
+  lent (m ∷ ms) few h = let e = entity_named P m.0 (λ e. has_pair P (owner P e) s) (first_holds (lends P s m.0) (lends_each P s ms) h) in (owner P e.0, e.2)
 
   pub reached : RefersInside P → (x : Tier) (k : Stock) (asked : Asked) → IsStepOpen P s x k → option_map (permits P s) (asked_in asked) ≡ Some true → wants_data asked ≡ true → IsUpTo (least_mark k.buffers) x
   reached refers x k (as_asked.Get ms) open_ permitted wants =

@@ -3,7 +3,7 @@ use Rattle.std.proofs.Common.{◌≡◌, ℕ, Bool, true, false, ◌&&◌, List,
 use Rattle.std.specs.List.{list_all, find}
 use Rattle.mk_base.specs.declared.json.Json.{Json, Json-F, out-Json, map-Json}
 use Rattle.mk_base.specs.Lists.{same_text, value_under}
-use Rattle.mk_base.specs.Trees.{member, is_in_range, range_step}
+use Rattle.mk_base.specs.Trees.{member, is_in_range, range_step, members_at}
 use Rattle.mk_base.proofs.FoldsAgree.{folded_out}
 use Rattle.mk_base.proofs.Lists.{none_some, some_same}
 
@@ -21,14 +21,10 @@ members_pass (m ∷ ms) name v all is = at (same_text m.0 name) (is_in_range m.1
     at true true e f all is more = ap is_in_range (sym (some_same is)) ∙ f
     at false true e f all is more = more all is
 
-abbrev layer_members : Json-F Json → Option (List (List ℕ × Json))
-layer_members (Json-F.Object ms) = Some ms
-layer_members _ = None
-
 member_in_range : (tree v : Json) (name : List ℕ) → is_in_range tree ≡ true → member name tree ≡ Some v → is_in_range v ≡ true
 member_in_range tree v name all is = at (out-Json tree) (sym (folded_out Bool range_step tree) ∙ all) is
   where
-    at : (l : Json-F Json) → range_step (map-Json Json Bool is_in_range l) ≡ true → option_and_then (value_under name) (layer_members l) ≡ Some v → is_in_range v ≡ true
+    at : (l : Json-F Json) → range_step (map-Json Json Bool is_in_range l) ≡ true → option_and_then (value_under name) (members_at l) ≡ Some v → is_in_range v ≡ true
     at Json-F.Null all is = absurd (none_some is)
     at (Json-F.Bool b) all is = absurd (none_some is)
     at (Json-F.Whole n) all is = absurd (none_some is)

@@ -28,7 +28,7 @@ use Rattle.mk_plan.proofs.FullIds.{same_full}
 use Rattle.mk_order.proofs.EntityNames.{same_owner}
 use Rattle.mk_order.proofs.GivenEntries.{given_went, gifts_by}
 use Rattle.mk_order.specs.Supplies.{given_so_far, SameSupply}
-use Rattle.mk_order.proofs.GivenValues.{AreGiven, is_text, text_is}
+use Rattle.mk_order.proofs.GivenValues.{AreGiven}
 use Rattle.mk_order.specs.Pending.{IsMarkOf}
 use Rattle.mk_order.proofs.Opened.{outputs_opened}
 use Rattle.mk_order.proofs.Supplies.{response_by}
@@ -38,7 +38,6 @@ use Rattle.mk_async.specs.declared.request.Asked.{Asked}
 use Rattle.mk_buffers.specs.declared.buffers.Buffers.{Buffers}
 use Rattle.mk_buffers.specs.Held.{with_gift}
 use Rattle.mk_buffers.specs.Standing.{IsSourced, StandFor, mark_of}
-use Rattle.mk_buffers.proofs.Standing.{eq_from, same_from}
 use Rattle.mk_sched_open.specs.Turns.{IsRight}
 use Rattle.mk_sched_supply.specs.declared.stock.Stock.{Stock}
 use Rattle.mk_sched_supply.specs.inner.Gifts.{HasGifts, HasGivenAll, HasGivenOf, IsAnswerBy, gifts_in}
@@ -46,6 +45,10 @@ use Rattle.mk_sched_supply.specs.inner.Making.{HasSameRest}
 use Rattle.mk_sched_supply.specs.Stock.{IsStockOf, MayComeNext}
 use Rattle.mk_sched_supply.proofs.Keeping.{mark_going}
 use Rattle.mk_sched_supply.proofs.Supplying.{supply_through, told_supplies}
+use Rattle.mk_base.proofs.Counts.{equal_same, same_equal}
+use Rattle.mk_sched_open.proofs.Every.{answer_late}
+use Rattle.mk_base.proofs.Guessing.{text_is}
+use Rattle.mk_base.proofs.Items.{same_text_self}
 
 -- ---- the item
 
@@ -67,10 +70,6 @@ module _ (P : Plan) (look : Lookup) (s : ℕ) (r : Request) where
 
   answered_is : (name : List ℕ) (args : List Json) (named : Json) → request_of name args named ≡ Some r → None ≡ refusal_in (answer P look s name args named) → answer P look s name args named ≡ Answered (content_text P look r) (sets_in P r)
   answered_is name args named e h = answered_from (is_function name) (request_of name args named) e h
-
-no_step : (id : ℕ) (a : AskAnswer) → is_step (item_of id a) ≡ false
-no_step id (Answered content sets) = refl
-no_step id (Refused n) = refl
 
 module _ (P : Plan) (V : View) (s : ℕ) (x : Tier) (o : Place) (id : ℕ) (name : List ℕ) (args : List Json) (named : Json) where
   pub refused_item : (n : ℕ) → Some n ≡ refusal_in (answer P (value_at (supply P V.acts) x) s name args named) → Refuse id n ≡ response P (supply P V.acts) s x o (Ask id name args named)
@@ -110,11 +109,11 @@ asked_sets P s id name args named asked ws accepted read h = go (asked_in asked)
 
 module _ (P : Plan) (valid : IsValidPlan P) where
   from_one : (e : ℕ) → e < length P.entities → (g : Gift) → g.given.source ≡ full_id P e → (f : ℕ) → f < length P.entities → (b : Bool) → (f == e) ≡ b → filter (λ h. same_text h.given.source (full_id P f)) (g ∷ []) ≡ cond b (g ∷ []) []
-  from_one e below g src f low true is = ap (λ (c : Bool). cond c (g ∷ []) []) (ap (λ (u : List ℕ). same_text u (full_id P f)) (src ∙ ap (full_id P) (sym (eq_from f e is))) ∙ is_text (full_id P f))
+  from_one e below g src f low true is = ap (λ (c : Bool). cond c (g ∷ []) []) (ap (λ (u : List ℕ). same_text u (full_id P f)) (src ∙ ap (full_id P) (sym (same_equal f e is))) ∙ same_text_self (full_id P f))
   from_one e below g src f low false is = go (same_text g.given.source (full_id P f)) refl
     where
       go : (c : Bool) → same_text g.given.source (full_id P f) ≡ c → cond c (g ∷ []) [] ≡ []
-      go true h = absurd (true≢false (sym (same_from f e (same_full P valid.well_formed.names valid.well_formed.references f e low below (sym (text_is g.given.source (full_id P f) h) ∙ src))) ∙ is))
+      go true h = absurd (true≢false (sym (equal_same f e (same_full P valid.well_formed.names valid.well_formed.references f e low below (sym (text_is g.given.source (full_id P f) h) ∙ src))) ∙ is))
       go false h = refl
 
   pub gift_more : (S T : Supply) (gs : List Gift) (e : ℕ) → e < length P.entities → (g : Gift) → g.given.source ≡ full_id P e → HasGifts P gs S T → HasGifts P (gs ++ g ∷ []) S (with_gift T e g)
@@ -165,7 +164,7 @@ module _ (P : Plan) (J : List Entry) (s : SimNo) (T : OpenTurn) (q : Place) (id 
       after = note_right P (view P J) s.0 ask T (Some q)
 
       no : is_step item ≡ false
-      no = ap is_step is ∙ no_step id (answer P (value_at (supply P (view P J).acts) T.at) s.0 name args named)
+      no = ap is_step is ∙ answer_late id (answer P (value_at (supply P (view P J).acts) T.at) s.0 name args named)
 
       through : SameSupply P taken.supply (given_so_far P after)
       through = record {
@@ -193,18 +192,9 @@ stock_refused P J s T q id name args named k n refused may right stock = stock_a
     (record { supply = stock.supplied.0; stands = stock.supplied.1; more = record { outputs = refl; behind = λ e low. sym (append_nil (stock.supplied.0.gifts e)) } })
     (Refuse id n) (refused_item P (view P J) s.0 T.at T.place id name args named n (refused (value_at (supply P (view P J).acts) T.at)))
 
--- what holds of what is got
-pub with_ok : {X E : Type 0} {Q R : X → Type 0} (r : Result X E) → ((x : X) → Q x → R x) → IfOk r Q → IfOk r R
-with_ok (Ok x) f h = f x h
-with_ok (Err e) f h = tt
-
 pub with_both : {X E : Type 0} {Q U R : X → Type 0} (r : Result X E) → ((x : X) → Q x → U x → R x) → IfOk r Q → IfOk r U → IfOk r R
 with_both (Ok x) f h g = f x h g
 with_both (Err e) f h g = tt
-
-pub none_left : {X : Type 0} (xs : List X) (n : ℕ) → n ≡ length xs → n ≡ 0 → xs ≡ []
-none_left [] n count none = refl
-none_left (x ∷ xs) n count none = absurd (omega (arith, count, none))
 
 -- one value more is given
 pub given_more : (P : Plan) (s : ℕ) (S : Supply) (x : Tier) (done : List SetValue) (w : SetValue) (old new : Buffers) → HasGivenAll P (gifts_in x done) S old → IsGivenBy P s w

@@ -27,7 +27,6 @@ use Rattle.mk_plan.specs.Advance.{IsAdvance}
 use Rattle.mk_plan.specs.Orderly.{IsNext}
 use Rattle.mk_order.specs.Pending.{IsMarkOf}
 use Rattle.mk_order.proofs.Opened.{outputs_opened}
-use Rattle.mk_order.proofs.Reasons.{and_both}
 use Rattle.mk_plan_names.specs.Names.{AreNamesOf}
 use Rattle.mk_sched_open.specs.Turns.{IsRight}
 use Rattle.mk_buffers.specs.declared.buffers.Buffers.{Buffers}
@@ -39,17 +38,20 @@ use Rattle.mk_sched_supply.specs.declared.stock.Stock.{Stock}
 use Rattle.mk_sched_supply.specs.Outputs.{AreData, AreOutputsIn, found_values}
 use Rattle.mk_sched_supply.specs.Stock.{IsStockFor, IsStockOf, MayComeNext}
 use Rattle.mk_sched_supply.specs.inner.Making.{HasGiven, HasSameRest}
-use Rattle.mk_sched_supply.proofs.Bringing.{brought, brought_all, take_all}
+use Rattle.mk_sched_supply.proofs.Bringing.{brought, brought_all}
 use Rattle.mk_sched_supply.proofs.Gaining.{HasGained, gained_more}
 use Rattle.mk_sched_supply.proofs.Keeping.{mark_right}
 use Rattle.mk_sched_supply.proofs.Lasting.{last_quiet}
 use Rattle.mk_sched_supply.proofs.Supplying.{ended_supplies}
 use Rattle.std.proofs.lemmas.Bool.Decides.{nat_tests}
+use Rattle.mk_base.proofs.Items.{length_map, take_all}
+use Rattle.mk_base.proofs.Bools.{both_hold}
+use Rattle.mk_sched_supply.proofs.Feeding.{get_map}
 
 -- ---- one value
 
 value_text : (v : Json) → is_datum v ≡ true → is_in_range v ≡ true → IsValueText (text_of v)
-value_text v datum range = let t = and_both (is_whole v) (nat_le (nesting v) value_depth) datum in record { tree = v; whole = t.0; in_range = range; deep = deep_is t.1; is = refl }
+value_text v datum range = let t = both_hold (is_whole v) (nat_le (nesting v) value_depth) datum in record { tree = v; whole = t.0; in_range = range; deep = deep_is t.1; is = refl }
   where
     deep_is : nat_le (nesting v) value_depth ≡ true → nesting v ≤ value_depth
     deep_is h = grind (arith, nat_tests)
@@ -77,15 +79,6 @@ taken_some P b n S s x w first place o v text for is same proper law delivered =
 
 -- ---- value by value
 
-map_get : {X Y : Type 0} (f : X → Y) (xs : List X) (i : ℕ) (x : X) → slice_get xs i ≡ Some x → slice_get (map f xs) i ≡ Some (f x)
-map_get f [] i x at = cc
-map_get f (x ∷ xs) zero y at = ap (λ z. Some (f z)) (some_same at)
-map_get f (x ∷ xs) (suc i) y at = map_get f xs i y at
-
-length_map : {X Y : Type 0} (f : X → Y) (xs : List X) → length (map f xs) ≡ length xs
-length_map f [] = refl
-length_map f (x ∷ xs) = ap suc (length_map f xs)
-
 abbrev tree_of : Option (Bor Json) → Option Json
 tree_of = option_map (λ v. v.now)
 
@@ -102,7 +95,7 @@ rest_through j k l f g = record { names = g.names ∙ f.names; feeds = g.feeds �
 pub gained_next : (P : Plan) (S : Supply) (content : Json) (outs : Outputs) (place s : ℕ) (x : Tier) (o : Option (Bor Json)) (old new : Buffers) → slice_get outs.values.items place ≡ Some o → s < sim_count P → found_values outs ≡ map (value_for content) (wanted P s)
     → HasGained P s x content place S old → ((T : Supply) (w : Want) → StandFor P old T → slice_get (wanted P s) place ≡ Some w → HasGiven P s x w (option_map (λ v. v.now) o) T new) → HasGained P s x content (place + 1) S new
 gained_next P S content outs place s x o old new at low values h given =
-    let t = map_at (value_for content) (wanted P s) place (tree_of o) (sym (ap (λ l. slice_get l place) values) ∙ map_get tree_of outs.values.items place o at) in
+    let t = map_at (value_for content) (wanted P s) place (tree_of o) (sym (ap (λ l. slice_get l place) values) ∙ get_map tree_of outs.values.items place o at) in
     gained_more P s low x content S place t.0 t.1 old new h (tree_of o) (sym t.2) (given h.now t.0 h.stands t.1)
 
 -- ---- all values

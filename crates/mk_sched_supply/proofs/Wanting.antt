@@ -17,9 +17,10 @@ use Rattle.mk_plan.specs.Asks.{gives_attr}
 use Rattle.mk_plan_judge.proofs.Putting.{names_total}
 use Rattle.mk_plan_judge.proofs.Puts.{all_has}
 use Rattle.mk_plan_judge.proofs.Taken.{same_names, taken_is_wanted}
-use Rattle.mk_order.proofs.Reasons.{and_both, both_and}
-use Rattle.mk_order.proofs.GivenValues.{text_is}
 use Rattle.std.proofs.lemmas.Bool.{eqb-true, eq-eqb}
+use Rattle.mk_base.proofs.Items.{get_default, same_text_self}
+use Rattle.mk_base.proofs.Bools.{and_holds, both_hold}
+use Rattle.mk_base.proofs.Guessing.{text_is}
 
 -- ---- equal names
 
@@ -41,14 +42,10 @@ abbrev pub is_want : Want → Want → Bool
 is_want v w = same_text w.eid v.eid && same_text w.attr v.attr
 
 is_want_same : (v w : Want) → is_want v w ≡ true → w ≡ v
-is_want_same v w h = let t = and_both (same_text w.eid v.eid) (same_text w.attr v.attr) h in λ i. record { eid = text_is w.eid v.eid t.0 i; attr = text_is w.attr v.attr t.1 i }
-
-pub text_itself : (s : List ℕ) → same_text s s ≡ true
-text_itself [] = refl
-text_itself (b ∷ s) = both_and (nat_eq b b) (same_text s s) (eq-eqb b b refl) (text_itself s)
+is_want_same v w h = let t = both_hold (same_text w.eid v.eid) (same_text w.attr v.attr) h in λ i. record { eid = text_is w.eid v.eid t.0 i; attr = text_is w.attr v.attr t.1 i }
 
 is_want_itself : (v : Want) → is_want v v ≡ true
-is_want_itself v = rw (text_itself v.eid, text_itself v.attr) refl
+is_want_itself v = rw (same_text_self v.eid, same_text_self v.attr) refl
 
 module _ {Y : Type 0} (f : Want → List Y) (v : Want) where
   abbrev pub of_want : Want → List Y
@@ -72,7 +69,7 @@ module _ {Y : Type 0} (f : Want → List Y) (v : Want) where
 pub given_is_wanted : (P : Plan) (e : ℕ) (attr : List ℕ) → gives_attr P e attr ≡ true → IsIn (let w : Want = record { eid = eid_of P e; attr = attr } in w) (wanted P (owner P e))
 given_is_wanted P e attr given =
     let t = some_passes (λ (c : Conn). (c.from == e) && same_text c.from_attr attr) P.conns given in
-    let u = and_both (t.0.from == e) (same_text t.0.from_attr attr) t.2 in
+    let u = both_hold (t.0.from == e) (same_text t.0.from_attr attr) t.2 in
     let from : t.0.from ≡ e = eqb-true t.0.from e u.0 in
     let same : t.0.from_attr ≡ attr = text_is t.0.from_attr attr u.1 in
     subst (λ (w : Want). IsIn w (wanted P (owner P e))) (λ i. record { eid = eid_of P (from i); attr = same i }) (taken_is_wanted P t.0 (owner P e) t.1 (ap (owner P) from))
@@ -95,13 +92,8 @@ rising ws v sorted = searchable_from_sorted names_total (λ w. w) ws v (λ k d l
     next (x ∷ xs) zero d sorted below = all_at (λ y. want_order x y ≡ Less) xs d sorted.0 (omega arith)
     next (x ∷ xs) (suc k) d sorted below = subst (λ (n : ℕ). want_order (get_or xs k d) (get_or (x ∷ xs) n d) ≡ Less) {x = suc (k + 1)} {y = suc k + 1} (omega arith) (next xs k d sorted.1 (omega arith))
 
-some_at : {X : Type 0} (xs : List X) (i : ℕ) (d : X) → i < length xs → slice_get xs i ≡ Some (get_or xs i d)
-some_at [] i d low = absurd (omega arith)
-some_at (x ∷ xs) zero d low = refl
-some_at (x ∷ xs) (suc i) d low = some_at xs i d (omega arith)
-
 pub found_at : (ws : List Want) (v : Want) (i : ℕ) → i < length ws → HoldsAt (λ w. want_order w v ≡ Equal) ws i → slice_get ws i ≡ Some v
-found_at ws v i low holds = some_at ws i v low ∙ ap Some (same_names (get_or ws i v) v (holds v))
+found_at ws v i low holds = get_default ws i v low ∙ ap Some (same_names (get_or ws i v) v (holds v))
 
 pub not_missing : (ws : List Want) (v : Want) (i : ℕ) → (IsNonDecreasingBy (λ w. ordering_index (want_order w v)) ws → IsPartitionPoint (λ w. want_order w v ≡ Less) (λ w. want_order w v ≡ Greater) ws i) → IsStrictlySortedBy want_order ws → IsIn v ws → slice_get ws i ≡ Some v
 not_missing ws v i parts sorted m =

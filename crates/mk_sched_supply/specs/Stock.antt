@@ -5,7 +5,7 @@ use Rattle.mk_plan.specs.declared.Conn.{Conn}
 use Rattle.mk_plan.specs.declared.Want.{Want}
 use Rattle.mk_plan.specs.declared.Entry.{Entry}
 use Rattle.mk_plan.specs.Plans.{IsValidPlan, sim_count, eid_of}
-use Rattle.mk_plan.specs.Turns.{wanted}
+use Rattle.mk_plan.specs.Turns.{wanted, want_of}
 use Rattle.mk_plan.specs.Deliveries.{Supply, triggering_from}
 use Rattle.mk_plan.specs.Journals.{View, view}
 use Rattle.mk_plan.specs.Ready.{IsReady}
@@ -18,14 +18,10 @@ use Rattle.mk_buffers.specs.Standing.{StandFor, mark_of}
 use Rattle.mk_sched_supply.specs.declared.feeds.Feed.{Feed}
 use Rattle.mk_sched_supply.specs.declared.stock.Stock.{Stock}
 
--- what a connection takes from its source
-abbrev pub taken : Plan → Conn → Want
-taken P c = record { eid = eid_of P c.from; attr = c.from_attr }
-
 -- these are the places, among the wants of s, of what each of these connections takes
 abbrev pub ArePlaces : Plan → ℕ → List Conn → List ℕ → Type 0
 ArePlaces P s cs places = map (λ p. slice_get (wanted P s) p) places
-    ≡ map (λ c. Some (taken P c)) cs
+    ≡ map (λ c. Some (want_of P c)) cs
 
 -- what s is wanted to give, and where the triggering connections find it
 pub record IsFeedOf (P : Plan) (s : ℕ) (f : Feed) : Type 0 where

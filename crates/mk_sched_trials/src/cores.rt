@@ -1,6 +1,6 @@
 //! A run of two simulators, message by message.
 ghost use Rattle.std.specs.Prelude.{◌≡◌, true, IfOk};
-ghost use Rattle.mk_sched.specs.Cores.{is_message_in_range};
+ghost use Rattle.mk_plan.specs.Messages.{is_message_in_range};
 
 use mk_base::{Mem, SimKind, SimNo};
 use mk_json::{JsonFault, read_json};

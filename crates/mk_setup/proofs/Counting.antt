@@ -12,10 +12,10 @@ use Rattle.mk_scenario.specs.declared.parts.Scenario.{Scenario}
 use Rattle.mk_scenario.specs.Wellformed.{IsWellformed, IsWellformedGroup}
 use Rattle.mk_connect.proofs.ByPlaces.{range_get}
 use Rattle.mk_run_laws.specs.Handshake.{Request, call_to, setup_count, setup_requests}
-use Rattle.mk_run_laws.proofs.Stepping.{apart_is, same_is, same_or_not}
 use Rattle.mk_setup.specs.inner.Counts.{IsCounted, IsToSim}
 use Rattle.mk_setup.specs.Requests.{first_ids, id_before}
 use Rattle.mk_setup.proofs.Sequence.{create_of, done_to, each_sim, init_to, request_count}
+use Rattle.mk_base.proofs.Counts.{not_same, same_or_not, same_self}
 
 -- ---- lists of counts
 
@@ -94,10 +94,10 @@ pub count_append : (i : ℕ) (a b : List Request) → count_to i (a ++ b) ≡ co
 count_append i a b = ap length (filter_map_append (call_to i) a b) ∙ length-append (filter_map (call_to i) a) (filter_map (call_to i) b)
 
 pub count_here : (r : Request) → count_to r.sim (r ∷ []) ≡ 1
-count_here r = ap (λ (b : Bool). length (cons_option (if b then Some r.call else None) [])) (same_is r.sim)
+count_here r = ap (λ (b : Bool). length (cons_option (if b then Some r.call else None) [])) (same_self r.sim)
 
 pub count_away : (r : Request) (i : ℕ) → (i ≡ r.sim → ⊥) → count_to i (r ∷ []) ≡ 0
-count_away r i apart = ap (λ (b : Bool). length (cons_option (if b then Some r.call else None) [])) (apart_is r.sim i (λ e. apart (sym e)))
+count_away r i apart = ap (λ (b : Bool). length (cons_option (if b then Some r.call else None) [])) (not_same r.sim i (λ e. apart (sym e)))
 
 -- each request is to at most one
 few_to : (i : ℕ) (rs : List Request) → count_to i rs ≤ length rs

@@ -19,11 +19,11 @@ use Rattle.mk_entities.specs.Creation.{added, count_fault, drafts, entities_adde
 use Rattle.mk_entities.specs.Descriptions.{reply_entities}
 use Rattle.mk_scenario.specs.declared.parts.Scenario.{Scenario}
 use Rattle.mk_scenario.specs.declared.parts.Group.{Group}
-use Rattle.mk_scenario.proofs.ListFacts.{same_is}
 use Rattle.mk_connect.specs.Complete.{has_model}
 use Rattle.mk_connect_pairs.specs.Groups.{fault_of_group, group_fault, id_of_sim, model_fault, model_named}
 use Rattle.mk_connect.proofs.ByPlaces.{range_get}
 use Rattle.mk_setup.proofs.Replied.{ok_err, ok_same}
+use Rattle.mk_base.proofs.Guessing.{text_is}
 
 some_none : {X : Type 0} {x : X} → Some x ≡ None → ⊥
 some_none e = none_some (sym e)
@@ -72,7 +72,7 @@ module _ (old : List EntityInfo) (sim : SimNo) (group num : ℕ) (model : List �
       go : (b : Bool) → d.is_child ≡ b → (if d.is_child then list_any (λ (m : ModelMeta). same_text m.name k) meta.models else same_text k model) ≡ true → has_model k meta ≡ true
       go true child h = sym (ap (λ (b : Bool). if b then list_any (λ (m : ModelMeta). same_text m.name k) meta.models else same_text k model) child) ∙ h
       go false child h = let s : same_text k model ≡ true = sym (ap (λ (b : Bool). if b then list_any (λ (m : ModelMeta). same_text m.name k) meta.models else same_text k model) child) ∙ h in
-          let e : k ≡ model = same_is k model s in ap (λ (l : List ℕ). has_model l meta) e ∙ has
+          let e : k ≡ model = text_is k model s in ap (λ (l : List ℕ). has_model l meta) e ∙ has
 
   has_kind : (d : Described) → has_type model meta d ≡ true → (k : List ℕ) × (d.kind ≡ Some k)
   has_kind d e = go d.kind refl e

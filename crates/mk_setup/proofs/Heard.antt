@@ -13,7 +13,6 @@ use Rattle.mk_meta.specs.Metadata.{meta_in}
 use Rattle.mk_scenario.specs.declared.parts.Scenario.{Scenario}
 use Rattle.mk_scenario.specs.declared.parts.Group.{Group}
 use Rattle.mk_run_laws.specs.Handshake.{Request, setup_requests}
-use Rattle.mk_run_laws.proofs.Stepping.{same_is}
 use Rattle.mk_setup.specs.declared.fault.SetupFault.{SetupFault}
 use Rattle.mk_setup.specs.declared.fault.SetupFault.TheVariants as fault
 use Rattle.mk_setup.specs.Answers.{IsRefused}
@@ -26,6 +25,8 @@ use Rattle.mk_setup.specs.inner.Standing.{IsSoundSetup}
 use Rattle.mk_setup.proofs.Counting.{count_is, counted_length}
 use Rattle.mk_setup.proofs.Sequence.{create_at, done_at, init_at, request_count}
 use Rattle.mk_setup.proofs.Stepping.{counted_of, to_there}
+use Rattle.mk_base.proofs.Bools.{both_hold}
+use Rattle.mk_base.proofs.Counts.{same_self}
 
 -- the simulator of the request that is outstanding
 pub sim_there : (U : SetupState) (ids : List ℕ) (plan : Option Plan) (s : ℕ) → IsSoundSetup U ids plan → awaited_sim U ≡ Some s → s < length ids
@@ -51,7 +52,7 @@ id_tells U ids plan s sim id n st e same at =
     let t = outstanding_is U s e in
     let r : Request = t.0 in
     let number : n ≡ id_before U.scenario U.answered r.sim = count_is U.scenario U.answered ids (counted_of U ids plan st) s n at ∙ ap (id_before U.scenario U.answered) (sym t.2) in
-    let here : (sim == r.sim) ≡ true = ap (λ (k : ℕ). sim == k) (t.2 ∙ sym same) ∙ same_is sim in
+    let here : (sim == r.sim) ≡ true = ap (λ (k : ℕ). sim == k) (t.2 ∙ sym same) ∙ same_self sim in
     ap (λ (k : ℕ). id == k) number ∙ sym (ap (λ (b : Bool). b && (id == id_before U.scenario U.answered r.sim)) here) ∙ sym (ap (λ (o : Option Request). unwrap_or (option_map (λ (q : Request). is_reply U q sim id) o) false) t.1)
 
 -- a request is outstanding that goes to the simulator and has the id
@@ -63,16 +64,12 @@ pub record IsHeard (U : SetupState) (sim id : ℕ) : Type 0 where
   pub next : IsToSim U.scenario U.answered sim
   pub to : request.sim ≡ sim
 
-both_true : (a b : Bool) → (a && b) ≡ true → (a ≡ true) × (b ≡ true)
-both_true true b e = (refl, e)
-both_true false b e = absurd (true≢false (sym e))
-
 pub heard : (U : SetupState) (sim id : ℕ) → is_awaited U sim id ≡ true → IsHeard U sim id
 heard U sim id e = go (outstanding U) refl e
   where
     from : (b : Bool) → U.asked ≡ b → (r : Request) → (if b then request_of U else None) ≡ Some r → is_reply U r sim id ≡ true → outstanding U ≡ Some r → IsHeard U sim id
     from true asked r is h o =
-        let to : r.sim ≡ sim = sym (eqb-true sim r.sim (both_true (sim == r.sim) _ h).0) in
+        let to : r.sim ≡ sim = sym (eqb-true sim r.sim (both_hold (sim == r.sim) _ h).0) in
         record { request = r; outstanding = o; reply = h; asked = asked; next = ap (option_map (λ (q : Request). q.sim)) is ∙ ap Some to; to = to }
     from false asked r is h o = absurd (none_some is)
 

@@ -1,5 +1,5 @@
 -- The lemmas of mk_setup, by their files.
-mod Sequence
+pub mod Sequence
 mod Replied
 mod Reaching
 mod Planned

@@ -22,6 +22,7 @@ use Rattle.mk_setup.specs.Replies.{after_any, after_message, after_reply, is_rep
 use Rattle.mk_setup.specs.Requests.{group_of, id_before, meta_of, request_of}
 use Rattle.mk_setup.specs.Seen.{SetupState}
 use Rattle.mk_setup.proofs.Sequence.{request_is}
+use Rattle.mk_base.proofs.Bools.{both_hold}
 
 module _ {X E : Type 0} where
   abbrev ok : X → Result X E
@@ -51,12 +52,8 @@ pub record IsTaken (U V : SetupState) (a : Arrival) : Type 0 where
   pub message : a.message ≡ Success (id_before U.scenario U.answered request.sim) content
   pub adds : with_reply U (record { 0 = a.sim }) request.call content ≡ Ok V
 
-both_true : (a b : Bool) → (a && b) ≡ true → (a ≡ true) × (b ≡ true)
-both_true true b e = (refl, e)
-both_true false b e = absurd (true≢false (sym e))
-
 reply_is : (U : SetupState) (r : Request) (sim id : ℕ) → is_reply U r sim id ≡ true → (sim ≡ r.sim) × (id ≡ id_before U.scenario U.answered r.sim)
-reply_is U r sim id e = let t = both_true (sim == r.sim) (id == id_before U.scenario U.answered r.sim) e in (eqb-true _ _ t.0, eqb-true _ _ t.1)
+reply_is U r sim id e = let t = both_hold (sim == r.sim) (id == id_before U.scenario U.answered r.sim) e in (eqb-true _ _ t.0, eqb-true _ _ t.1)
 
 message_ok : (U V : SetupState) (r : Request) (sim : SimNo) (m : Message) → after_message U r sim m ≡ Ok V
     → (sim.0 ≡ r.sim) × (content : Json) × (m ≡ Success (id_before U.scenario U.answered r.sim) content) × (with_reply U sim r.call content ≡ Ok V)

@@ -13,8 +13,8 @@ use Rattle.mk_simapi.specs.declared.servant.Answer.TheVariants as answer
 use Rattle.mk_simapi.specs.inner.Answers.{AnswersAs, CallsAs, IsItemPayload}
 use Rattle.mk_simapi.specs.Replies.{after_asked, after_called, after_message, call_answer, is_stop_call, stops_by}
 use Rattle.mk_base.specs.Lists.{same_text}
-use Rattle.mk_order.proofs.GivenValues.{text_is}
 use Rattle.mk_simapi.specs.Requests.{call_in, data_in, item_in, step_in}
+use Rattle.mk_base.proofs.Guessing.{text_is}
 
 -- a call that isn't a stop gets a reply
 pub is_replied : (call : Call) → is_stop_call call ≡ false → IsCallReplied call

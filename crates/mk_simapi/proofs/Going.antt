@@ -6,9 +6,9 @@ use Rattle.mk_plan.specs.declared.Message.{Message}
 use Rattle.mk_frame.specs.Frames.{frames_of}
 use Rattle.mk_message.specs.Written.{message_text}
 use Rattle.mk_local.specs.Simulators.{Simulator}
-use Rattle.mk_run_laws.proofs.Moving.{frames_more}
 use Rattle.mk_simapi.specs.Replies.{after_message, is_stop, payloads, replies, reply_to}
 use Rattle.mk_simapi.specs.Serving.{NoStop}
+use Rattle.mk_frame.proofs.OnFrames.{frames_of-append}
 
 -- nothing after a stop
 abbrev unless : Bool → List Message → List Message
@@ -49,7 +49,7 @@ payloads_begin L ms later = let r = replies_begin L ms later in (map message_tex
 pub frames_begin : (L : Simulator) (ms later : List Message) (said unsent : List ℕ) → said ++ unsent ≡ frames_of (payloads L ms) → BeginsWith (frames_of (payloads L (ms ++ later))) said
 frames_begin L ms later said unsent is = let r = payloads_begin L ms later in (
   unsent ++ frames_of r.0,
-  ap frames_of r.1 ∙ frames_more (payloads L ms) r.0 ∙ ap (λ (b : List ℕ). b ++ frames_of r.0) (sym is) ∙ append_assoc said unsent (frames_of r.0),
+  ap frames_of r.1 ∙ frames_of-append (payloads L ms) r.0 ∙ ap (λ (b : List ℕ). b ++ frames_of r.0) (sym is) ∙ append_assoc said unsent (frames_of r.0),
 )
 
 -- ---- one more message
@@ -62,10 +62,6 @@ payloads_more L ms m r going e some = ap (map message_text) (replies_more L ms m
 
 pub payloads_stop : (L : Simulator) (ms later : List Message) (m : Message) → NoStop ms → is_stop m ≡ true → payloads L (ms ++ m ∷ later) ≡ payloads L ms
 payloads_stop L ms later m going e = ap (map message_text) (replies_stop L ms later m going e)
-
-pub each_behind : {X : Type 0} (Q : X → Type 0) (xs : List X) (y : X) → Each Q xs → Q y → Each Q (xs ++ y ∷ [])
-each_behind Q [] y h k = (k, tt)
-each_behind Q (x ∷ xs) y h k = (h.0, each_behind Q xs y h.1 k)
 
 -- the simulator after one more
 pub after_more : (L : Simulator) (ms : List Message) (m : Message) → fold after_message L (ms ++ m ∷ []) ≡ after_message (fold after_message L ms) m

@@ -10,8 +10,9 @@ use Rattle.mk_session.specs.Talks.{IsSaidOut}
 use Rattle.mk_local.specs.Simulators.{Simulator}
 use Rattle.mk_run_laws.specs.Rests.{SaysAll}
 use Rattle.mk_run_laws.proofs.Moving.{last_later}
-use Rattle.mk_run_laws.proofs.Stepping.{first_or_second, not_empty}
+use Rattle.mk_run_laws.proofs.Stepping.{first_or_second}
 use Rattle.mk_simapi.specs.Serving.{IsWellAtRest, RestsWell}
+use Rattle.mk_base.proofs.Items.{not_empty}
 
 -- entries of one link have no rest
 restless : (link : LinkNo) (before after entries : List LogEntry) → Each (IsOnLink link) entries → entries ≡ before ++ Rest ∷ after → ⊥

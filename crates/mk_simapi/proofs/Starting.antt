@@ -17,9 +17,6 @@ use Rattle.mk_outside.specs.declared.fleet.Start.TheVariants.{Connect}
 use Rattle.mk_outside.proofs.OnAsked.{asks_still}
 use Rattle.mk_simapi.specs.Children.{AsksToConnect, HasEnded, status_of}
 
-pub is_open : (link : LinkNo) (before after : List LinkNo) → after ≡ before ++ link ∷ [] → IsIn link after
-is_open link before after is = subst (IsIn link) (sym is) (in_back link before (link ∷ []) (inl refl))
-
 pub has_served : (rows : List Turn) (kind asked text : List ℕ) (port number started one_more going ended : ℕ) (link : LinkNo) (end : Served) (before opened served closed : List LinkNo) (old one two new : Option (List LogEntry)) (status : ℕ) (given : Option (List ℕ × ℕ))
     → given ≡ Some (asked, number) → given ≡ Some (kind, port) → text ≡ asked → link.0 ≡ started → one_more ≡ started + 1 → going ≡ one_more → ended ≡ going → opened ≡ before ++ link ∷ [] → served ≡ opened → closed ≡ without link served
     → Adds [] old one → ((entries : List LogEntry) × Adds entries one two × ((row : Turn) → kind_named text rows ≡ Some row → Serves (new_simulator row) link end entries)) → Adds [] two new → status ≡ status_of end

@@ -10,7 +10,7 @@ use Rattle.mk_message.specs.Messages.{message_of}
 use Rattle.mk_message.specs.Written.{message_text}
 use Rattle.mk_outside.specs.declared.fleet.LogEntry.{LogEntry}
 use Rattle.mk_outside.specs.declared.fleet.LogEntry.TheVariants.{NotHeard, Ended, Rest}
-use Rattle.mk_outside.proofs.OnLogs.{adds_more, adds_none}
+use Rattle.mk_outside.proofs.OnLogs.{adds_more, adds_none, heard-append, said-append}
 use Rattle.mk_outside.specs.Logs.{Adds, IsOnLink, heard_on, is_read, last_read, last_write, said_on}
 use Rattle.mk_session.specs.declared.answers.Heard.TheVariants as heard
 use Rattle.mk_session.specs.declared.answers.Polled.{Polled}
@@ -24,7 +24,7 @@ use Rattle.mk_local.specs.Kinds.{kind_named}
 use Rattle.mk_local.specs.Simulators.{Simulator, new_simulator}
 use Rattle.mk_run_laws.specs.Hearing.{Takes, none, more, first_message, messages_heard, rest_heard}
 use Rattle.mk_run_laws.specs.Rests.{SaysAll}
-use Rattle.mk_run_laws.proofs.Moving.{frames_push, heard_more, last_later, said_more}
+use Rattle.mk_run_laws.proofs.Moving.{last_later}
 use Rattle.mk_run_laws.proofs.Taking.{garbled_none, long_none, none_first, none_heard, taken_heard, taken_rest, takes_more, takes_on, unfinished_none}
 use Rattle.mk_simapi.specs.declared.served.Served.{Served}
 use Rattle.mk_simapi.specs.declared.served.Served.TheVariants as served
@@ -34,8 +34,10 @@ use Rattle.mk_simapi.specs.inner.Answers.{AnswersAs}
 use Rattle.mk_simapi.specs.Replies.{after_message, is_stop, payloads, reply_to}
 use Rattle.mk_simapi.specs.Serving.{AreShort, EndsBy, NoStop, IsUnstopped, IsWellAtRest, RestsWell, Serves, heard_of}
 use Rattle.mk_simapi.specs.inner.Standing.{GoesOn, IsAsked, IsServing, QueuesAs, RestsAs, SaysAs}
-use Rattle.mk_simapi.proofs.Going.{after_more, each_behind, frames_begin, payloads_more, payloads_same}
+use Rattle.mk_simapi.proofs.Going.{after_more, frames_begin, payloads_more, payloads_same}
 use Rattle.mk_simapi.proofs.Logs.{no_rest, rests_more, rests_still, said_out_later, says_all}
+use Rattle.mk_base.proofs.Items.{each_behind}
+use Rattle.mk_frame.proofs.OnFrames.{frames_of-push}
 
 module _ (L : Simulator) (link : LinkNo) where
   -- a serving begins
@@ -52,13 +54,13 @@ module _ (L : Simulator) (link : LinkNo) where
     each = subst (λ (l : LinkNo). Each (IsOnLink l) entries) at.on p.on_link
 
     heard_all : heard_on link (log ++ entries) ≡ heard_on link log ++ heard_on link entries
-    heard_all = heard_more link log entries
+    heard_all = heard-append link log entries
 
     said_here : said_on link entries ++ t.unsent ≡ s.unsent
     said_here = subst (λ (l : LinkNo). said_on l entries ++ t.unsent ≡ s.unsent) at.on p.said
 
     said_all : said_on link (log ++ entries) ++ t.unsent ≡ frames_of (payloads L ms)
-    said_all = ap (λ (b : List ℕ). b ++ t.unsent) (said_more link log entries) ∙ append_assoc (said_on link log) (said_on link entries) t.unsent
+    said_all = ap (λ (b : List ℕ). b ++ t.unsent) (said-append link log entries) ∙ append_assoc (said_on link log) (said_on link entries) t.unsent
         ∙ ap (λ (b : List ℕ). said_on link log ++ b) said_here ∙ at.said
 
     rests_all : RestsWell L link (log ++ entries)
@@ -135,8 +137,8 @@ module _ (L : Simulator) (link : LinkNo) where
     pub rested : IsUnfinished s.held → IsSaidOut link (last_write link log) s.unsent → last_read link log ≡ Some (NotHeard link) → IsServing L link (log ++ Rest ∷ []) ms M s
     rested un out last = record {
       on = at.on;
-      heard = subst (λ (h : List ℕ). Takes h ms s.held) (sym (heard_more link log (Rest ∷ []) ∙ append_nil (heard_on link log))) at.heard;
-      said = ap (λ (b : List ℕ). b ++ s.unsent) (said_more link log (Rest ∷ []) ∙ append_nil (said_on link log)) ∙ at.said;
+      heard = subst (λ (h : List ℕ). Takes h ms s.held) (sym (heard-append link log (Rest ∷ []) ∙ append_nil (heard_on link log))) at.heard;
+      said = ap (λ (b : List ℕ). b ++ s.unsent) (said-append link log (Rest ∷ []) ∙ append_nil (said_on link log)) ∙ at.said;
       now = at.now;
       going = at.going;
       short = at.short;
@@ -211,7 +213,7 @@ module _ (L : Simulator) (link : LinkNo) where
           subst (IsServing L link log (ms ++ m ∷ []) N) (sym so) (record {
             on = at.on;
             heard = at.heard;
-            said = sym (append_assoc (said_on link log) s.unsent (frame_of payload)) ∙ ap (λ (b : List ℕ). b ++ frame_of payload) at.said ∙ sym (frames_push (payloads L ms) payload) ∙ ap frames_of (sym all);
+            said = sym (append_assoc (said_on link log) s.unsent (frame_of payload)) ∙ ap (λ (b : List ℕ). b ++ frame_of payload) at.said ∙ sym (frames_of-push (payloads L ms) payload) ∙ ap frames_of (sym all);
             now = now_after;
             going = going_after;
             short = subst (Each (λ (p : List ℕ). length p ≤ limit)) (sym all) (each_behind (λ (p : List ℕ). length p ≤ limit) (payloads L ms) payload at.short fits);

@@ -3,7 +3,6 @@ ghost use Rattle.std.specs.Prelude.{◌≡◌, true, false, Some, IfOk, IfSome, 
 ghost use Rattle.std.specs.List.{list_all};
 ghost use Rattle.mk_base.specs.Lists.{IsIn};
 ghost use Rattle.mk_base.specs.Trees as trees;
-ghost use Rattle.mk_message.specs.Written.{is_in_range};
 ghost use Rattle.mk_local.specs.Kinds.{has_kind, kind_named};
 ghost use Rattle.mk_local.specs.Registries.{rows_in};
 ghost use Rattle.mk_local.specs.Calls.{after_call};
@@ -11,6 +10,7 @@ ghost use Rattle.mk_local.specs.Replies.{IsItemReplied};
 ghost use Rattle.mk_local.specs.Simulators.{new_simulator};
 ghost use Rattle.mk_simapi.specs.inner.Answers.{AnswersAs, CallsAs, IsItemPayload};
 ghost use Rattle.mk_simapi.specs.Replies.{after_asked, after_message, is_stop_call, unknown};
+ghost use Rattle.mk_plan.specs.Messages.{is_message_in_range};
 
 use crate::requests::{call_in, item_in};
 use mk_base::{Json, List, Mem, Text};
@@ -66,7 +66,7 @@ impl Servant {
         message: &Message,
     ) -> Result<Answer, Mem>
         requires there { IsIn self.old.kind (rows_in kinds.now) }
-        requires range { is_in_range message.now ≡ true }
+        requires range { is_message_in_range message.now ≡ true }
         ensures answer { IfOk result (λ a. AnswersAs a self.old message.now) }
         ensures after { OnOk result (self.new ≡ after_message self.old message.now) }
         ensures kind { self.new.kind ≡ self.old.kind }

@@ -5,7 +5,6 @@ ghost use Rattle.mk_outside.specs.declared.fleet.LogEntry.{LogEntry};
 ghost use Rattle.mk_outside.specs.Counts.{HasRisen};
 ghost use Rattle.mk_outside.specs.Logs.{Adds};
 ghost use Rattle.mk_plan.specs.declared.Message.{Message};
-ghost use Rattle.mk_message.specs.Written.{is_in_range};
 ghost use Rattle.mk_local.specs.declared.turn.Turn.{Turn};
 ghost use Rattle.mk_local.specs.Kinds.{has_kind, kind_named};
 ghost use Rattle.mk_local.specs.Registries.{rows_in};
@@ -14,6 +13,7 @@ ghost use Rattle.mk_session.specs.Answers.{Polls};
 ghost use Rattle.mk_simapi.specs.Serving.{Serves};
 ghost use Rattle.mk_simapi.specs.inner.Steps.{end_of};
 ghost use Rattle.mk_simapi.specs.inner.Standing.{GoesOn, IsAsked, IsServing, QueuesAs, RestsAs, SaysAs};
+ghost use Rattle.mk_plan.specs.Messages.{is_message_in_range};
 
 use crate::servant::{Answer, Servant};
 use crate::served::Served;
@@ -74,7 +74,7 @@ impl Service {
     // Answers a message that was heard; an end where it is a stop, or where its reply can't be queued.
     fn react(&mut self, alloc: Global, kinds: &Registry, message: &Message) -> Option<Served>
         requires there { IsIn self.old.servant.kind (rows_in kinds.now) }
-        requires range { is_in_range message.now ≡ true }
+        requires range { is_message_in_range message.now ≡ true }
         ensures kind { self.new.servant.kind ≡ self.old.servant.kind }
         ensures link { self.new.session.link ≡ self.old.session.link }
         ensures working { result ≡ Some Served.Failed → ⊥ }
@@ -121,7 +121,7 @@ impl Service {
     // Answers what a poll gave; an end where that is no message, or by how it is answered.
     fn take(&mut self, alloc: Global, kinds: &Registry, heard: Heard) -> Option<Served>
         requires there { IsIn self.old.servant.kind (rows_in kinds.now) }
-        requires range { (m : Message) → heard ≡ Heard.Message m → is_in_range m ≡ true }
+        requires range { (m : Message) → heard ≡ Heard.Message m → is_message_in_range m ≡ true }
         ensures kind { self.new.servant.kind ≡ self.old.servant.kind }
         ensures link { self.new.session.link ≡ self.old.session.link }
         ensures failed { result ≡ Some Served.Failed → heard ≡ Heard.Failed }

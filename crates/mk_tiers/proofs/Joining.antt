@@ -5,6 +5,7 @@ use Rattle.mk_base.proofs.Lists.{some_same, set_here, set_else}
 use Rattle.mk_tiers.specs.declared.bits.Bits.{Bits}
 use Rattle.mk_tiers.specs.Sets.{has, IsBoth}
 use Rattle.mk_tiers.specs.inner.Levels.{IsJoined}
+use Rattle.mk_base.proofs.Bools.{is_or_false}
 
 pub get_there : (xs : List Bits) (i : ℕ) (x : Bits) → i < length xs → x ≡ get_or xs i x → slice_get xs i ≡ Some x
 get_there [] i x low is = absurd (omega arith)
@@ -14,12 +15,8 @@ get_there (y ∷ ys) (suc i) x low is = get_there ys i x (omega arith) is
 pub joined_by : (m : ℕ) (one other now : Bits) → has one m ≡ true → IsBoth one other now → IsJoined m one other now
 joined_by m one other now h both i low = both i low ∙ sym (ap (λ (b : Bool). has one i || (b && has other i)) h)
 
-or_false : (b : Bool) → b ≡ b || false
-or_false true = refl
-or_false false = refl
-
 pub joined_not : (m : ℕ) (one other : Bits) → has one m ≡ false → IsJoined m one other one
-joined_not m one other h i low = or_false (has one i) ∙ sym (ap (λ (b : Bool). has one i || (b && has other i)) h)
+joined_not m one other h i low = is_or_false (has one i) ∙ sym (ap (λ (b : Bool). has one i || (b && has other i)) h)
 
 module _ (m : ℕ) (w : Bits) (old now : List Bits) (sim : ℕ) (here : Bits) (at : slice_get now sim ≡ Some here) (rest : (s : ℕ) → sim ≤ s → slice_get now s ≡ slice_get old s)
     (done : (s : ℕ) (one n : Bits) → s < sim → slice_get old s ≡ Some one → slice_get now s ≡ Some n → IsJoined m one w n) where

@@ -40,8 +40,3 @@ noted_both A B C x y z one two = record {
   grown = λ i h out. one.grown i h (two.grown i h out);
   same = λ P valid of s low h out e was. two.same P valid (one.plan P of) s (omega (arith, low, one.count)) h out e (one.same P valid of s low h (two.grown s h out) e was);
 }
-
-pub neither : (a b : Bool) → (a || b) ≡ false → (a ≡ false) × (b ≡ false)
-neither false false e = (refl, refl)
-neither false true e = absurd (true≢false e)
-neither true b e = absurd (true≢false e)

@@ -12,10 +12,7 @@ use Rattle.mk_watch.specs.declared.rows.Row.{Row}
 use Rattle.mk_watch.specs.Values.{with_number, number_at, numbers_at, folded, row_of, rows_of}
 use Rattle.mk_watch.specs.Tables.{row_text, rows_text, total_text}
 use Rattle.mk_watch.specs.inner.Folding.{add_number, after_input}
-
-fold_push : {A B : Type 0} (f : B → A → B) (b : B) (xs : List A) (x : A) → fold f b (xs ++ x ∷ []) ≡ f (fold f b xs) x
-fold_push f b [] x = refl
-fold_push f b (y ∷ xs) x = fold_push f (f b y) xs x
+use Rattle.mk_base.proofs.Items.{fold_push}
 
 -- ---- values
 

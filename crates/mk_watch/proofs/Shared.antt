@@ -11,9 +11,7 @@ use Rattle.mk_plan.specs.declared.Entry.{Entry}
 use Rattle.mk_plan.specs.declared.Entry.TheVariants.{Sent, Got}
 use Rattle.mk_plan.specs.Journals.{sent, sent_to}
 use Rattle.mk_watch.specs.inner.Shares.{AreShares}
-
-one_sent : (s : SimNo) (item : Item) → sent (Sent s item ∷ []) s.0 ≡ item ∷ []
-one_sent s item = ap (λ (b : Bool). filter_map (λ (o : Option Item). o) ((if b then Some item else None) ∷ [])) (eq-eqb s.0 s.0 refl)
+use Rattle.mk_plan.proofs.Sending.{sent_here}
 
 none_sent : (i : ℕ) (s : SimNo) (item : Item) → (i ≡ s.0 → ⊥) → sent (Sent s item ∷ []) i ≡ []
 none_sent i s item apart =
@@ -50,7 +48,7 @@ put_in count J s item shares t u there grown are = record {
     | inl same ↦
         let mine : r ≡ u = some_same (sym at ∙ ap (λ n. slice_get (slice_set shares s.0 u) n) same ∙ set_here shares s.0 u t there) in
         mine ∙ grown ∙ ap (λ l. l ++ item ∷ []) (are.each s.0 t there)
-        ∙ sym (ap (λ n. sent (J ++ Sent s item ∷ []) n) same ∙ filter_map_append (sent_to s.0) J (Sent s item ∷ []) ∙ ap (λ l. sent J s.0 ++ l) (one_sent s item))
+        ∙ sym (ap (λ n. sent (J ++ Sent s item ∷ []) n) same ∙ filter_map_append (sent_to s.0) J (Sent s item ∷ []) ∙ ap (λ l. sent J s.0 ++ l) (sent_here s item))
     | inr apart ↦
         are.each i r (sym (set_else shares s.0 i u apart) ∙ at)
         ∙ sym (filter_map_append (sent_to i) J (Sent s item ∷ []) ∙ ap (λ l. sent J i ++ l) (none_sent i s item apart) ∙ append_nil (sent J i))

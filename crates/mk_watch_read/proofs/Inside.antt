@@ -18,6 +18,7 @@ use Rattle.mk_watch_read.specs.declared.fault.WatchFault.{WatchFault}
 use Rattle.mk_watch_read.specs.declared.watches.Watch.{Watch}
 use Rattle.mk_watch_read.specs.Watches.{AreInside, keyed, known, watch_named, watch_at, watch_in, document_watches, watches_of, top_keys, watch_keys}
 use Rattle.mk_watch_read.specs.Rules.{place_of}
+use Rattle.mk_base.proofs.Items.{found_below}
 
 err_ok : {A : Type 0} (e : WatchFault) (x : A) → Err e ≡ Ok x → ⊥
 err_ok e x h = cc
@@ -38,13 +39,6 @@ after_sought : {A B : Type 0} (e : WatchFault) (o : Option A) (next : A → Resu
 after_sought e None next y h = absurd (err_ok e y h)
 after_sought e (Some x) next y h = (x, refl, h)
 
-found_low : (test : ℕ → Bool) (a n i : ℕ) → find test (range_with_len a n) ≡ Some i → i < a + n
-found_low test a zero i h = absurd (none_some h)
-found_low test a (suc n) i h = elim (test a) as (λ b. cond b (Some a) (find test (range_with_len (a + 1) n)) ≡ Some i → i < a + suc n) [
-  | true ↦ λ e. let is : a ≡ i = some_same e in omega (arith, is)
-  | false ↦ λ e. let low = found_low test (a + 1) n i e in omega (arith, low)
-] h
-
 low_place : {X : Type 0} (test : X → Bool) (a : ℕ) (xs : List X) (i : ℕ) → position_from test a xs ≡ Some i → i < a + length xs
 low_place test a [] i h = absurd (none_some h)
 low_place test a (x ∷ xs) i h = elim (test x) as (λ b. cond b (Some a) (position_from test (a + 1) xs) ≡ Some i → i < a + suc (length xs)) [
@@ -63,7 +57,7 @@ module _ (P : Plan) (names : List (List ℕ)) where
       let e = after_sought _ (entity_of P entity) _ w r.2 in
       let is : record { entity = e.0; attr = attr; rule = r.0 } ≡ w = ok_same _ w e.2 in
       subst (λ (v : Watch). (v.entity < length P.entities) × (v.rule < length names)) is
-      (subst (λ n. e.0 < n) (zero-add (length P.entities)) (found_low (λ n. same_text (full_id P n) entity) 0 (length P.entities) e.0 e.1), subst (λ n. r.0 < n) (zero-add (length names)) (low_place (λ n. same_text n rule) 0 names r.0 r.1))
+      (subst (λ n. e.0 < n) (zero-add (length P.entities)) (found_below (λ n. same_text (full_id P n) entity) 0 (length P.entities) e.0 e.1), subst (λ n. r.0 < n) (zero-add (length names)) (low_place (λ n. same_text n rule) 0 names r.0 r.1))
 
   watch_inside : (path : List ℕ) (table : Json) (w : Watch) → watch_at P names path table ≡ Ok w → Inside w
   watch_inside path table w h =

@@ -8,12 +8,7 @@ use Rattle.mk_plan.specs.Journals.{Arrival, arrivals}
 use Rattle.mk_record_read.specs.declared.saved.Asked.{Asked}
 use Rattle.mk_record_read.specs.Entries.{RecordEntry, StepOf, MessageOf, entries_after, entries_in, entries_of, step_of}
 use Rattle.mk_record_laws.specs.Again.{steps_after, steps_of}
-
--- the messages among these entries of a record
-abbrev messages_in : List RecordEntry → List Arrival
-messages_in [] = []
-messages_in (StepOf sim at advance ∷ E) = messages_in E
-messages_in (MessageOf a ∷ E) = a ∷ messages_in E
+use Rattle.mk_record_laws.proofs.Entries.{said}
 
 -- each step stands behind at least so many messages
 after_all : (n m : ℕ) (E : List RecordEntry) → m ≤ n → Each (λ (a : Asked). m ≤ a.before) (steps_after n E)
@@ -38,16 +33,16 @@ one_step n A s steps is =
     ap (λ (k : ℕ). map MessageOf (take k A) ++ step_of s ∷ entries_after (max n s.before) (drop k A) steps) none
     ∙ ap (λ (k : ℕ). step_of s ∷ entries_after k A steps) same
 
-together : (n : ℕ) (E : List RecordEntry) → entries_after n (messages_in E) (steps_after n E) ≡ E
+together : (n : ℕ) (E : List RecordEntry) → entries_after n (said E) (steps_after n E) ≡ E
 together n [] = refl
 together n (StepOf sim at advance ∷ E) =
-    one_step n (messages_in E) (record { before = n; sim = record { 0 = sim }; at = at; max_advance = advance }) (steps_after n E) refl
+    one_step n (said E) (record { before = n; sim = record { 0 = sim }; at = at; max_advance = advance }) (steps_after n E) refl
     ∙ ap (λ (F : List RecordEntry). StepOf sim at advance ∷ F) (together n E)
 together n (MessageOf a ∷ E) =
-    one_message n a (messages_in E) (steps_after (n + 1) E) (after_all (n + 1) (n + 1) E (omega arith))
+    one_message n a (said E) (steps_after (n + 1) E) (after_all (n + 1) (n + 1) E (omega arith))
     ∙ ap (λ (F : List RecordEntry). MessageOf a ∷ F) (together (n + 1) E)
 
-messages_are : (J : List Entry) → arrivals J ≡ messages_in (entries_of J)
+messages_are : (J : List Entry) → arrivals J ≡ said (entries_of J)
 messages_are [] = refl
 messages_are (Got s m ∷ J) = ap (λ (A : List Arrival). record { sim = s.0; message = m } ∷ A) (messages_are J)
 messages_are (Sent s (Step at ins advance) ∷ J) = messages_are J

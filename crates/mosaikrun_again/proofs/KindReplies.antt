@@ -18,7 +18,7 @@ use Rattle.mk_base.specs.declared.json.Json as tree
 use Rattle.mk_base.specs.Lists.{Each, same_text, text_order, last_of}
 use Rattle.mk_base.specs.Proper.{is_proper}
 use Rattle.mk_base.specs.Trees as trees
-use Rattle.mk_base.specs.Trees.{deepest, nesting}
+use Rattle.mk_base.specs.Trees.{deepest, nesting, Member}
 use Rattle.mk_base.proofs.Levels.{nesting_items, nesting_members}
 use Rattle.mk_base.proofs.Lists.{none_some, some_same}
 use Rattle.mk_base.proofs.Putting.{put_rises}
@@ -31,7 +31,7 @@ use Rattle.mk_plan.specs.declared.Item.TheVariants.{Step, GetData, Answer, Refus
 use Rattle.mk_plan.specs.declared.Message.{Message}
 use Rattle.mk_plan.specs.declared.Message.TheVariants.{Success}
 use Rattle.mk_plan.specs.declared.Want.{Want}
-use Rattle.mk_message.specs.Written.{is_in_range, message_text, message_tree}
+use Rattle.mk_message.specs.Written.{message_text, message_tree}
 use Rattle.mk_message.proofs.ReadBack.{message_of-written, range-framed}
 use Rattle.mk_scenario.specs.declared.parts.Scenario.{Scenario}
 use Rattle.mk_run_laws.specs.Handshake.{setup_count}
@@ -46,6 +46,7 @@ use Rattle.mk_local.specs.Steps.{next_of, number_or_null, step_content}
 use Rattle.mk_local.proofs.DataRight.{more_digits}
 use Rattle.mk_run_local.specs.Made.{kind_reply_of, made, no_reply}
 use Rattle.mk_record_laws.specs.Readable.{IsHeard}
+use Rattle.mk_plan.specs.Messages.{is_message_in_range}
 
 -- ---- texts
 
@@ -67,9 +68,6 @@ unfolding is_utf8 chars lib.Utf8.encode
 time_utf8 = refl
 
 -- ---- the members of a reply to a GetData
-
-abbrev Member : Type 0
-Member = List ℕ × tree.Json
 
 -- the name is UTF-8, and the value is proper and nests at most one deep
 record IsFine (m : Member) : Type 0 where
@@ -241,7 +239,7 @@ kind_own bound rows S i items low = by_sim (made rows S i)
 
 -- ---- read of its text
 
-success_heard : (id : ℕ) (content : tree.Json) → id < 2 ^ 63 → IsFlat content → is_in_range (Success id content) ≡ true → IsHeard (Success id content)
+success_heard : (id : ℕ) (content : tree.Json) → id < 2 ^ 63 → IsFlat content → is_message_in_range (Success id content) ≡ true → IsHeard (Success id content)
 success_heard id content low flat fits =
     let ts : List tree.Json = tree.Whole (pos 1) ∷ tree.Whole (pos id) ∷ content ∷ [] in
     let one = whole_flat (pos 1) in
@@ -257,9 +255,9 @@ success_heard id content low flat fits =
       shallow = omega (arith, deep);
     }
 
-own_heard : (m : Message) → IsOwn (2 ^ 63) m → is_in_range m ≡ true → IsHeard m
-own_heard m own fits = subst IsHeard (sym own.is) (success_heard own.id own.content own.low own.flat (subst (λ (n : Message). is_in_range n ≡ true) own.is fits))
+own_heard : (m : Message) → IsOwn (2 ^ 63) m → is_message_in_range m ≡ true → IsHeard m
+own_heard m own fits = subst IsHeard (sym own.is) (success_heard own.id own.content own.low own.flat (subst (λ (n : Message). is_message_in_range n ≡ true) own.is fits))
 
 -- a kind's reply that is in range is read of some payload, where the ids are below 2^63
-pub kind_heard : (rows : List Turn) (S : Scenario) (i : ℕ) (items : List Item) (m : Message) → setup_count S i + length items < 2 ^ 63 → m ≡ kind_reply_of rows S i items → is_in_range m ≡ true → IsHeard m
+pub kind_heard : (rows : List Turn) (S : Scenario) (i : ℕ) (items : List Item) (m : Message) → setup_count S i + length items < 2 ^ 63 → m ≡ kind_reply_of rows S i items → is_message_in_range m ≡ true → IsHeard m
 kind_heard rows S i items m low is fits = own_heard m (subst (IsOwn (2 ^ 63)) (sym is) (kind_own (2 ^ 63) rows S i items low)) fits

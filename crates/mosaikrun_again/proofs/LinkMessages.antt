@@ -15,7 +15,8 @@ use Rattle.mk_scenario.specs.declared.parts.Scenario.{Scenario}
 use Rattle.mk_run_laws.specs.Handshake.{setup_count}
 use Rattle.mk_run_laws.specs.Hearing.{cut, first_frame, first_message, messages_heard, value_in}
 use Rattle.mk_run_laws.specs.Rests.{run_messages}
-use Rattle.mk_run_laws.proofs.Stepping.{same_is}
+use Rattle.mk_base.proofs.Counts.{same_self}
+use Rattle.mk_run_laws.proofs.Taking.{then_cut}
 
 -- some payload has the message
 abbrev pub IsRead : Message → Type 0
@@ -31,9 +32,6 @@ first_read held f e = by_frame (first_frame held) e
     by_frame : (o : Option (List ℕ × List ℕ)) → option_and_then (λ (f : List ℕ × List ℕ). option_map (λ (m : Message). let p : Message × List ℕ = (m, f.1) in p) (value_in (message_of f.0))) o ≡ Some f → IsRead f.0
     by_frame None e = absurd (none_some e)
     by_frame (Some g) e = by_payload g (message_of g.0) refl e
-
-abbrev then_cut : ℕ → List ℕ → Option (Message × List ℕ) → List Message × List ℕ
-then_cut n held o = elim o [ None ↦ ([], held) | Some f ↦ (f.0 ∷ (cut n f.1).0, (cut n f.1).1) ]
 
 cut_read : (n : ℕ) (held : List ℕ) → Each IsRead (cut n held).0
 cut_read zero held = tt
@@ -53,7 +51,7 @@ each_front Q [] more all = tt
 each_front Q (m ∷ ms) more all = (all.0, each_front Q ms more all.1)
 
 got_there : (H : List Entry) (s : SimNo) (m : Message) (more : List Entry) → IsIn m (got (H ++ Got s m ∷ more) s.0)
-got_there H s m more = filter_map_in (got_from s.0) (Got s m) m (H ++ Got s m ∷ more) (in_back (Got s m) H (Got s m ∷ more) (inl refl)) (ap (λ b. if b then Some m else None) (same_is s.0))
+got_there H s m more = filter_map_in (got_from s.0) (Got s m) m (H ++ Got s m ∷ more) (in_back (Got s m) H (Got s m ∷ more) (inl refl)) (ap (λ b. if b then Some m else None) (same_self s.0))
 
 -- a message that a journal got of a link
 pub link_read : (S : Scenario) (log : List LogEntry) (l : LinkNo) (J H : List Entry) (s : SimNo) (m : Message) (more : List Entry) → BeginsWith (run_messages S log s.0 l) (got J s.0) → J ≡ H ++ Got s m ∷ more → IsRead m

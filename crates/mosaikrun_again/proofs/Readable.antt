@@ -25,20 +25,19 @@ use Rattle.mk_record_laws.specs.Readable.{IsHeard, IsReadable, MayStand}
 use Rattle.mk_record_laws.proofs.Steps.{EntryFits, StepFits, steps_fit}
 use Rattle.mk_run.specs.declared.outcome.Outcome.{Outcome}
 use Rattle.mk_run.specs.Ran.{HasRun}
-use Rattle.mk_run.proofs.ItemSent.{bool_or_not}
 use Rattle.mosaikrun_again.specs.Readable.{IsShallow, RunsAreReadable}
 use Rattle.mosaikrun_again.proofs.KindReplies.{kind_heard}
 use Rattle.mosaikrun_again.proofs.LinkMessages.{link_read}
+use Rattle.mk_base.proofs.Counts.{between_test}
+use Rattle.mk_base.proofs.Bools.{true_or_false}
+use Rattle.mk_run.proofs.SmallIds.{low_first}
 
 -- ---- the numbers of a Step
-
-between : (n : ℤ) (high : ℕ) → (pos 0 ≤ℤ n) × (n ≤ℤ pos high) → (int_le (pos 0) n && int_le n (pos high)) ≡ true
-between n high h = let a = h.0 in let b = h.1 in grind (arith, ints, a, b)
 
 step_stands : (P : Plan) (s : ℕ) (x : Tier) (advance : ℤ) → StepFits P s x advance → step_fits x.time (pos x.tier) advance ≡ true
 step_stands P s x advance h =
     let tier : (pos 0 ≤ℤ pos x.tier) × (pos x.tier ≤ℤ pos 1000) = (let t = h.tier in (grind (arith, ints, t), grind (arith, ints, t))) in
-    and_from _ _ (and_from _ _ (between x.time 1000000000 h.time) (between (pos x.tier) 1000 tier)) (between advance 1000000000 h.ahead)
+    and_from _ _ (and_from _ _ (between_test x.time 1000000000 h.time) (between_test (pos x.tier) 1000 tier)) (between_test advance 1000000000 h.ahead)
 
 -- ---- how high ids come
 
@@ -50,18 +49,11 @@ kept_few f (x ∷ xs) = by (f x) (kept_few f xs)
     by None few = omega (arith, few)
     by (Some y) few = omega (arith, few)
 
-first_low : (P : Plan) → IsValidPlan P → (i : ℕ) → i < sim_count P → first_id P i ≤ 1000000
-first_low P valid i low =
-    let t = below_get P.sims i low in
-    let same : first_id P i ≡ t.0.first_id = ap (λ (o : Option PlanSim). unwrap_or (option_map (λ (s : PlanSim). s.first_id) o) 0) t.1 in
-    let few : t.0.first_id ≤ 1000000 = all_at (λ (s : PlanSim). s.first_id ≤ 1000000) P.sims i t.0 valid.well_formed.limits.first_ids t.1 in
-    omega (arith, same, few)
-
 module _ (A : Attempt) (P : Plan) (J : List Entry) (faults new_faults : ℕ) (end : Outcome) (h : HasRun A P J faults new_faults end) (shallow : IsShallow A.scenario J) where
   -- the ids of a simulator's requests in a run are below 2^63
   ids_low : (H : List Entry) (s : SimNo) (m : Message) (more : List Entry) → J ≡ H ++ Got s m ∷ more → s.0 < sim_count P → setup_count A.scenario s.0 + length (map bare (sent H s.0)) < 2 ^ 63
   ids_low H s m more is low =
-      let first : setup_count A.scenario s.0 ≤ 1000000 = subst (λ (n : ℕ). n ≤ 1000000) (h.first s.0 low) (first_low P h.run.valid s.0 low) in
+      let first : setup_count A.scenario s.0 ≤ 1000000 = subst (λ (n : ℕ). n ≤ 1000000) (h.first s.0 low) (low_first P h.run.valid s.0 low) in
       let items : length (map bare (sent H s.0)) ≡ length (sent H s.0) = length-map (sent H s.0) bare in
       let few : length (sent H s.0) ≤ length H = kept_few (sent_to s.0) H in
       let part : length J ≡ length H + length (Got s m ∷ more) = ap length is ∙ length-append H (Got s m ∷ more) in
@@ -70,7 +62,7 @@ module _ (A : Attempt) (P : Plan) (J : List Entry) (faults new_faults : ℕ) (en
       omega (arith, first, items, few, part, within, limit)
 
   heard : (H : List Entry) (s : SimNo) (m : Message) (more : List Entry) → J ≡ H ++ Got s m ∷ more → s.0 < sim_count P → IsHeard m
-  heard H s m more is low = elim (bool_or_not (is_within A.scenario s.0)) [
+  heard H s m more is low = elim (true_or_false (is_within A.scenario s.0)) [
     | inl inside ↦ kind_heard A.rows A.scenario s.0 (map bare (sent H s.0)) m (ids_low H s m more is low) (h.run.journal.kinds H s m more is inside).is (h.run.in_range H s m more is)
     | inr outside ↦
         let l = link_there A.started A.scenario s.0 (subst (λ (n : ℕ). s.0 < n) h.run.journal.sims low) outside in

@@ -30,14 +30,10 @@ use Rattle.mk_record_replay.specs.declared.replaying.ReplayEnd.{ReplayEnd}
 use Rattle.mk_record_replay.specs.declared.replaying.ReplayEnd.TheVariants.{Done, Core, Short}
 use Rattle.mk_record_replay.specs.Replays.{EndsBy, IsEndOf, SomeUngiven, IsWhole, end_with}
 use Rattle.mk_record_replay.proofs.Counting.{some_are_open}
-use Rattle.mk_record_replay.proofs.OneEnd.{at_end, one_end}
+use Rattle.mk_record_replay.proofs.OneEnd.{at_end, one_end, some_of}
 use Rattle.mk_record_replay.proofs.Pushing.{got_is}
 use Rattle.mosaikrun_again.specs.Again.{EndsAlike, IsFaultAgain, IsReplayOf, IsSaidToTheEnd, IsSentAll, ReplayHasJournal, ReplaysAreRuns}
 use Rattle.mosaikrun_again.proofs.Again.{entries_again}
-
-some_of : {X : Type 0} (o : Option X) → IsSome o → (x : X) × (o ≡ Some x)
-some_of None h = absurd (cc)
-some_of (Some x) h = (x, refl)
 
 -- a journal at whose end nothing is to be sent is at its end as a replay of its own messages
 own_end : (P : Plan) (J : List Entry) → IsSentAll P J → IsAtEnd IsReady IsAdvance P (arrivals J) J

@@ -10,7 +10,6 @@ use Rattle.mk_plan.specs.declared.Entry.{Entry}
 use Rattle.mk_plan.specs.declared.Entry.TheVariants.{Sent, Got}
 use Rattle.mk_plan.specs.Acts.{Said, Heard}
 use Rattle.mk_plan.specs.Journals.{Arrival, arrival_of, arrivals, got, got_from}
-use Rattle.mk_message.specs.Written.{is_in_range}
 use Rattle.mk_record.specs.Steps.{IsKnown}
 use Rattle.mk_blame.specs.declared.verdict.Blamed.{Blamed}
 use Rattle.mk_blame.specs.declared.verdict.Verdict.{Verdict}
@@ -19,6 +18,7 @@ use Rattle.mk_blame.specs.Talks.{talk, message_in, messages}
 use Rattle.mk_blame.specs.Verdicts.{IsBlamed, IsVerdict}
 use Rattle.mk_blame.specs.Written.{may_be_written, is_writable}
 use Rattle.mk_blame.proofs.Talking.{messages_of_talk}
+use Rattle.mk_plan.specs.Messages.{is_message_in_range}
 
 came_from : (i : ℕ) (e : Entry) (m : Message) → got_from i e ≡ Some m → (a : Arrival) × (arrival_of e ≡ Some a) × (a.message ≡ m)
 came_from i (Sent s item) m h = absurd (none_some h)
@@ -39,14 +39,14 @@ talked J i before more m is =
     subst (λ (l : List Message). IsIn m l) (sym (filter_map_append message_in before (Heard m ∷ more)) ∙ sym (ap messages is) ∙ messages_of_talk J i)
     (in_back m (messages before) (m ∷ messages more) (inl refl))
 
-in_range : (P : Plan) (J : List Entry) → All (IsKnown P) (arrivals J) → (i : ℕ) (before more : List Said) (m : Message) → talk J i ≡ before ++ Heard m ∷ more → is_in_range m ≡ true
+in_range : (P : Plan) (J : List Entry) → All (IsKnown P) (arrivals J) → (i : ℕ) (before more : List Said) (m : Message) → talk J i ≡ before ++ Heard m ∷ more → is_message_in_range m ≡ true
 in_range P J known i before more m is =
     let t = came_in J i m (talked J i before more m is) in
-    sym (ap is_in_range t.2) ∙ (all_in (IsKnown P) (arrivals J) t.0 known t.1).in_range
+    sym (ap is_message_in_range t.2) ∙ (all_in (IsKnown P) (arrivals J) t.0 known t.1).in_range
 
 module _ (P Q : Plan) (J K : List Entry) (known : All (IsKnown P) (arrivals J)) (other : All (IsKnown Q) (arrivals K)) where
   one_written : (b : Blamed) → IsBlamed J K b → may_be_written b ≡ true
-  one_written b is = and_from (is_in_range b.first) (is_in_range b.second)
+  one_written b is = and_from (is_message_in_range b.first) (is_message_in_range b.second)
       (in_range P J known b.sim.0 is.before is.parts.more b.first is.parts.first) (in_range Q K other b.sim.0 is.before is.parts.other b.second is.parts.second)
 
   all_written : (bs : List Blamed) → ((b : Blamed) → IsIn b bs → IsBlamed J K b) → list_all may_be_written bs ≡ true

@@ -20,6 +20,7 @@ use Rattle.mosaikrun_endings.specs.Endings.{outcome_status, status_of}
 use Rattle.mk_launch.specs.Ready.{CanBegin, IsPrepared}
 use Rattle.mosaikrun_check.specs.Checks.{IsChecked, IsOutcome, IsUnchecked}
 use Rattle.mosaikrun_check.specs.Runnable.{AreRanks, IsUnrunnable}
+use Rattle.mk_base.proofs.Items.{at_each}
 
 module _ (before : ℕ → ℕ → Bool) (n : ℕ) where
   one_next : (placed : List ℕ) (s t : ℕ) → IsNext before n placed s → IsNext before n placed t → s ≡ t
@@ -70,19 +71,13 @@ same_scenario S T verdict a b = let same = sym a ∙ b in cc
 scenario_or_fault : (S : parts.Scenario) (fault : ScenarioFault) → (verdict : Result parts.Scenario ScenarioFault) → verdict ≡ Ok S → verdict ≡ Err fault → ⊥
 scenario_or_fault S fault verdict a b = let same = sym a ∙ b in cc
 
--- each item passes
-each_at : {X : Type 0} (P : X → Type 0) (xs : List X) (i : ℕ) (x : X) → Each P xs → slice_get xs i ≡ Some x → P x
-each_at P [] i x all there = cc
-each_at P (y ∷ ys) zero x (first, others) there = let same : y ≡ x = cc in subst P same first
-each_at P (y ∷ ys) (suc i) x (first, others) there = each_at P ys i x others there
-
 -- a scenario with ranks, whose simulators can all be begun, can be run
 pub runnable_or_not : (kinds : List (List ℕ)) (S : parts.Scenario) (ranks : List ℕ) (e : Ending) → AreRanks S ranks → IsPrepared S kinds → IsUnrunnable kinds S e → e ≡ Mem
 runnable_or_not kinds S ranks e ranked prepared (inl mem) = mem
 runnable_or_not kinds S ranks e ranked prepared (inr (inl circle)) = absurd (ranked_no_cycle (has_edge (edges_of S)) (length S.sims) ranks (numbers circle.walk) ranked circle.cycle)
 runnable_or_not kinds S ranks e ranked prepared (inr (inr unprepared)) =
     let first = unprepared.unbegun.first in
-    let none = each_at (CanBegin kinds) S.sims unprepared.unbegun.unready.sim.0 first.sim prepared first.there in
+    let none = at_each (CanBegin kinds) S.sims unprepared.unbegun.unready.sim.0 first.sim prepared first.there in
     let some = first.cause in
     let both = sym none ∙ some in
     absurd cc

@@ -29,11 +29,6 @@ all_within size S is = ap is_wholly_within is
 pub no_memory : (O : Outside) (size : ℕ) → O.log ≡ [] → O.new_faults ≡ O.faults → IsDemoOutcome O size (Err Mem)
 no_memory O size quiet same = inl (record { ending = Mem; is = refl; cause = inl refl; idle = record { quiet = quiet; same_faults = same; unrecorded = refl } })
 
--- what holds of the value of an answer, by what held of it before
-pub if_ok : {A E : Type 0} {X Y : A → Type 0} (r : Result A E) → ((a : A) → X a → Y a) → IfOk r X → IfOk r Y
-if_ok (Ok a) f x = f a x
-if_ok (Err e) f x = tt
-
 pub if_err : {A E : Type 0} {X Y : E → Type 0} (r : Result A E) → ((e : E) → X e → Y e) → IfErr r X → IfErr r Y
 if_err (Ok a) f x = tt
 if_err (Err e) f x = f e x

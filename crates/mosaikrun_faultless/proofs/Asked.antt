@@ -6,7 +6,7 @@ use Rattle.mk_order_any.specs.Parts.Reached.{then_moves}
 use Rattle.mk_order_any.specs.Laws.{Laws}
 use Rattle.mk_order_any.proofs.Lists.{same_or_not}
 use Rattle.mk_order_any.proofs.Talks.{agrees}
-use Rattle.mk_order.proofs.Seen.{same_self, not_same}
+use Rattle.mk_base.proofs.Counts.{not_same, same_self}
 
 module _ (P : Parts) (L : Laws P) where
   open P use {Tier, Message, Said, begin, told, step}

@@ -25,17 +25,16 @@ use Rattle.mk_plan.specs.Orderly.{IsNext, IsAllowed, IsOrderlyFrom, IsOrderlySoF
 use Rattle.mk_order_any.proofs.Lists.{same_or_not}
 use Rattle.mk_order_any.proofs.Talks.{above}
 use Rattle.mk_order.proofs.Theory.{parts, laws}
-use Rattle.mk_order.proofs.Seen.{IsSound, at_self, not_same, open_after_is, same_self, ready_seen, reached, reached_sound, seen, turn_of}
+use Rattle.mk_order.proofs.Seen.{IsSound, at_self, open_after_is, ready_seen, reached, reached_sound, seen, turn_of}
 use Rattle.mk_order.proofs.Pushing.{orderly_front, view_push}
 use Rattle.mosaikrun_faultless.proofs.Asked.{ready_low}
 use Rattle.mosaikrun_faultless.proofs.Sums.{one_longer, one_shorter}
+use Rattle.mk_base.proofs.Items.{some_none}
+use Rattle.mk_base.proofs.Counts.{not_same, same_self}
 
 -- all that was said, with one simulator after another
 abbrev pub all_said : Plan → List Entry → List Said
 all_said P J = flat_map (said (view P J)) (range_with_len 0 (sim_count P))
-
-some_none : {X : Type 0} (x : X) → Some x ≡ None → ⊥
-some_none x e = cc
 
 module _ (P : Plan) (V : View) where
   -- one thing more was said with s, and nothing with the others

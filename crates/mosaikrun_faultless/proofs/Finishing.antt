@@ -28,9 +28,7 @@ use Rattle.mk_run_laws.proofs.Following.{all_done}
 use Rattle.mosaikrun_faultless.specs.Limits.{MeetsNoLimit}
 use Rattle.mosaikrun_faultless.proofs.Counting.{counted_back}
 use Rattle.mosaikrun_faultless.proofs.Sums.{none_longer}
-
-some_none : {X : Type 0} (x : X) → Some x ≡ None → ⊥
-some_none x e = cc
+use Rattle.mk_base.proofs.Items.{some_none}
 
 module _ (P : Plan) where
   -- no turn that has ended triggers beyond the limit

@@ -32,16 +32,10 @@ use Rattle.mosaikrun_again.proofs.Again.{entries_again}
 use Rattle.mosaikrun_faultless.specs.Within.{RecordsWithin, RunsWithin}
 use Rattle.mosaikrun_faultless.proofs.Counting.{open_low}
 use Rattle.mosaikrun_faultless.proofs.Finishing.{limits_kept}
+use Rattle.mk_base.proofs.Items.{some_none}
+use Rattle.mk_record_read.proofs.Known.{kept_as}
 
-some_none : {X : Type 0} (x : X) → Some x ≡ None → ⊥
-some_none x e = cc
-
--- a message as the program keeps it
-kept : journals.Arrival → Arrival
-kept a = record { sim = record { 0 = a.sim }; message = a.message }
-
-came_kept : (A : List journals.Arrival) → map came (map kept A) ≡ A
-unfolding kept
+came_kept : (A : List journals.Arrival) → map came (map kept_as A) ≡ A
 came_kept [] = refl
 came_kept (a ∷ A) = ap (λ (B : List journals.Arrival). a ∷ B) (came_kept A)
 
@@ -99,7 +93,7 @@ module _ (O : Outside) (bytes : List ℕ) (S : Scenario) (ranks : List ℕ) (P :
   unfolding within
   recorded_within recorded reads = record {
     run = within;
-    old = record { plan = P; arrivals = map kept (arrivals J); asks = Some (steps_of J) };
+    old = record { plan = P; arrivals = map kept_as (arrivals J); asks = Some (steps_of J) };
     old_read = reads ∙ ap (λ (A : List journals.Arrival). Said P A (Some (steps_of J))) (sym (came_kept (arrivals J)));
     same_plan = (((refl, refl), refl, refl, refl, refl), refl);
     journal = J;

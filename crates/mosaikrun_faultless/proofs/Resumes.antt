@@ -38,30 +38,28 @@ use Rattle.mk_resume_links.specs.Rests.{Counts}
 use Rattle.mk_resume_loop.specs.declared.ending.ResumeEnd.{ResumeEnd}
 use Rattle.mk_resume.specs.Laws as onward
 use Rattle.mk_resume.specs.Resumed.{IsDiffering, IsResumed}
-use Rattle.mk_resume.proofs.DoneRuns.{at_length, got_there, none_out, up_to_there}
+use Rattle.mk_resume.proofs.DoneRuns.{got_there, none_out, up_to_there}
 use Rattle.mosaikrun_run.specs.Outcomes.{Outside, exchange_in}
 use Rattle.mosaikrun_program.specs.Complete.{IsFaultlessResume, IsRightRecord}
 use Rattle.mosaikrun_faultless.specs.Within.{RecordsWithin}
 use Rattle.mosaikrun_faultless.proofs.Counting.{entry_low}
 use Rattle.mosaikrun_faultless.proofs.Studies.{all_closed, handshake, here, no_fault_there, no_more_there, same_plan}
+use Rattle.mk_base.proofs.Items.{same_heads, at_length}
 
 -- ---- a message of a journal that begins with another
-
-heads : {X : Type 0} {x y : X} {xs ys : List X} → x ∷ xs ≡ y ∷ ys → (x ≡ y) × (xs ≡ ys)
-heads e = (cc, cc)
 
 -- the message stands in the first one, where that has more of its simulator than stands before it
 front_of : (H first tail more : List Entry) (s : SimNo) (m : Message) → first ++ tail ≡ H ++ Got s m ∷ more → length (got H s.0) < length (got first s.0) → (rest : List Entry) × (first ≡ H ++ Got s m ∷ rest)
 front_of H [] tail more s m is few = absurd (omega (arith, few))
-front_of [] (e ∷ first) tail more s m is few = (first, ap (λ (f : Entry). f ∷ first) (heads is).0)
+front_of [] (e ∷ first) tail more s m is few = (first, ap (λ (f : Entry). f ∷ first) (same_heads is).0)
 front_of (h ∷ H) (e ∷ first) tail more s m is few =
-    let same : e ≡ h = (heads is).0 in
+    let same : e ≡ h = (same_heads is).0 in
     let a = ap length (filter_map_append (got_from s.0) (h ∷ []) H) in
     let b = ap length (filter_map_append (got_from s.0) (h ∷ []) first) in
     let c = length-append (got (h ∷ []) s.0) (got H s.0) in
     let d = length-append (got (h ∷ []) s.0) (got first s.0) in
     let k : length (got (e ∷ first) s.0) ≡ length (got (h ∷ first) s.0) = ap (λ (f : Entry). length (got (f ∷ first) s.0)) same in
-    let t = front_of H first tail more s m (heads is).1 (omega (arith, few, a, b, c, d, k)) in
+    let t = front_of H first tail more s m (same_heads is).1 (omega (arith, few, a, b, c, d, k)) in
     (t.0, (λ i. same i ∷ t.1 i))
 
 module _ (P : Plan) (reply : Replies) (inside : ℕ → Bool) (first J : List Entry) (orderly : IsOrderlySoFar IsReady IsAdvance P J) (begins : BeginsWith J first) (early : KeepsToKinds reply inside P first) (heard : Counts) (counts : (i : ℕ) → length (got J i) ≡ max (length (got first i)) (heard i))

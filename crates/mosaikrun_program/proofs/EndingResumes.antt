@@ -51,6 +51,8 @@ use Rattle.mosaikrun_program.proofs.Deciding.{readable_status, unread_status}
 use Rattle.mosaikrun_program.proofs.EndingRuns.{runnable_not, status_of_none, status_of_text}
 use Rattle.mosaikrun_program.proofs.Resuming.{no_record, refused_not}
 use Rattle.mosaikrun_program.proofs.Rows.{IsThere}
+use Rattle.mk_resume.proofs.OneOther.{none_other}
+use Rattle.mk_record_read.proofs.Known.{kept_as}
 
 -- ---- what a record says is one thing
 
@@ -65,9 +67,6 @@ plan_said Q (Faulty line fault) = Q
 abbrev asks_said : Reading → Option (List Asked)
 asks_said (Said P A asks) = asks
 asks_said (Faulty line fault) = None
-
-abbrev kept_as : journals.Arrival → Arrival
-kept_as a = record { sim = record { 0 = a.sim }; message = a.message }
 
 kept_again : (kept : List Arrival) → map kept_as (map came kept) ≡ kept
 kept_again [] = refl
@@ -96,16 +95,8 @@ read_not bytes old read e (inr fault) =
 
 -- ---- where a right record isn't taken, memory was wanting
 
-no_part : (a b : Plan) (part : Part) → IsFirstPart a b None → IsFirstPart a b (Some part) → ⊥
-no_part a b Bounds same other = other.1 same.0.0
-no_part a b Sims same other = other.1 same.0.1
-no_part a b Models same other = other.1 same.0.2
-no_part a b Entities same other = other.1 same.0.3
-no_part a b Conns same other = other.1 same.0.4
-no_part a b Asyncs same other = other.1 same.1
-
 refused_for_memory : (P : Plan) (old : Saved) (end : ResumeEnd) → IsRightRecord P old → IsRefusedBy P old end → end ≡ Outcome outcome.Mem
-refused_for_memory P old (OtherPlan n) right other = absurd (no_part P old.plan other.0 right.same_plan other.2)
+refused_for_memory P old (OtherPlan n) right other = absurd (none_other P old.plan other.0 right.same_plan other.2)
 refused_for_memory P old (OtherEntry n) right other = absurd (right.same_entries n other.1)
 refused_for_memory P old (Outcome o) right mem = ap Outcome mem.1
 refused_for_memory P old (Differs sim place kept heard) right none = absurd none

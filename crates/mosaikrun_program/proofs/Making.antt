@@ -25,7 +25,8 @@ use Rattle.mosaikrun_program.specs.Answers.{SaveAnswer, TextAnswer}
 use Rattle.mosaikrun_program.specs.Commands.{AreHeld, IsAsked, HasBytes, ComesOfFiles, IsNext, IsOutcomeOf, IsStuck, IsUnreadable, OfTwo, read_by, target_of}
 use Rattle.mosaikrun_program.specs.inner.Making.{IsMadeOfOne, IsUnmade}
 use Rattle.mosaikrun_program.specs.Program.{EndedAs}
-use Rattle.mosaikrun_program.proofs.Playing.{performed, risen_after}
+use Rattle.mosaikrun_program.proofs.Playing.{performed}
+use Rattle.mk_session.proofs.Polling.{risen_after}
 
 -- the text was saved, or wasn't
 pub saved_or_not : (folder : FolderSeen) (mid : Option Files) (risen : ℕ) (name text : List ℕ) (answer : Result (Unit {0}) Ending) → mid ≡ folder.files → folder.faults ≤ risen

@@ -12,6 +12,7 @@ use Rattle.mosaikrun_program.specs.Around.{Around, FolderSeen, OutputSeen}
 use Rattle.mosaikrun_program.specs.Commands.{AreHeld, HasBytes, OfOne}
 use Rattle.mosaikrun_program.specs.Running.{IsDoneOver, IsFolderAfter, IsSaved, IsUnsaved, RunAnswer}
 use Rattle.mosaikrun_program.specs.Program.{EndedAs, HasPerformed}
+use Rattle.mk_session.proofs.Polling.{risen_after}
 
 -- what was asked for was done, whatever the answer
 pub performed : (S : Around) (answer : Result (Unit {0}) Ending) → HasPerformed S answer → EndedAs S answer
@@ -67,11 +68,6 @@ reported folder out name kept text (Err e) saved cut = inr (cut.0, saved, cut.1)
 pub either : {V : Type 0} (items : V → List ℕ) (P Q : Result (List ℕ) Ending → Type 0) (t : Result V Ending) → IfOk t (λ v. P (Ok (items v))) → IfErr t (λ e. P (Err e)) → IfOk t (λ v. Q (Ok (items v))) → IfErr t (λ e. Q (Err e)) → (x : Result (List ℕ) Ending) × P x × Q x
 either items P Q (Ok v) text none also nor = (Ok (items v), text, also)
 either items P Q (Err e) text none also nor = (Err e, none, nor)
-
--- a count that rose since has risen
-pub risen_after : (old mid new : ℕ) → old ≤ mid → HasRisen mid new → HasRisen old new
-risen_after old mid new low (inl rose) = inl (omega (arith, low, rose))
-risen_after old mid new low (inr full) = inr full
 
 -- an answer that holds from when the folder was read holds from before
 module _ (folder : FolderSeen) (mid : Option Files) (risen : ℕ) (same : mid ≡ folder.files) (low : folder.faults ≤ risen) where

@@ -46,6 +46,9 @@ use Rattle.mosaikrun_run.specs.Laws.{AlikeIsOneText, WithinIsOneText}
 use Rattle.mosaikrun_run.specs.Outcomes.{IsPlayed, IsRunOutcome, IsScenarioOutcome, Outside, attempt_in, exchange_in}
 use Rattle.mosaikrun_run.specs.Sayings.{text_of}
 use Rattle.mosaikrun_run.proofs.Reporting.{said_is_done, texts_sequential}
+use Rattle.mk_base.proofs.Items.{each_append, at_each}
+use Rattle.mk_run_crew.proofs.Answered.{one_answer, low_request}
+use Rattle.mk_run.proofs.Fitting.{same_ok}
 
 -- ---- one ranking
 
@@ -60,15 +63,6 @@ module _ (before : ℕ → ℕ → Bool) (n : ℕ) where
 
 -- ---- each request goes to a simulator
 
-each_both : {X : Type 0} (A : X → Type 0) (xs ys : List X) → Each A xs → Each A ys → Each A (xs ++ ys)
-each_both A [] ys all more = more
-each_both A (x ∷ xs) ys all more = (all.0, each_both A xs ys all.1 more)
-
-each_at : {X : Type 0} (A : X → Type 0) (xs : List X) (i : ℕ) (x : X) → Each A xs → slice_get xs i ≡ Some x → A x
-each_at A [] i x all there = absurd (none_some there)
-each_at A (y ∷ xs) zero x all there = subst A (some_same there) all.0
-each_at A (y ∷ xs) (suc i) x all there = each_at A xs i x all.1 there
-
 to_each : (f : ℕ × SimPart → Request) → ((p : ℕ × SimPart) → (f p).sim ≡ p.0) → (n k : ℕ) (sims : List SimPart) → k + length sims ≤ n → Each (λ (r : Request). r.sim < n) (map f (enumerate_from k sims))
 to_each f names n k [] fits = tt
 to_each f names n k (s ∷ sims) fits = (omega (arith, names (k, s), fits), to_each f names n (k + 1) sims (omega (arith, fits)))
@@ -77,23 +71,7 @@ to_groups : (n : ℕ) (groups : List Group) → Each (IsWellformedGroup n) group
 to_groups n [] all = tt
 to_groups n (g ∷ groups) all = (all.0.sim, to_groups n groups all.1)
 
-goes_there : (S : Scenario) → IsWellformed S → (k : ℕ) (r : Request) → slice_get (setup_requests S) k ≡ Some r → r.sim < length S.sims
-goes_there S wellformed k r there =
-    let n = length S.sims in
-    let inits = to_each (λ (p : ℕ × SimPart). record { sim = p.0; call = Init p.1.id p.1.params }) (λ p. refl) n 0 S.sims (omega arith) in
-    let ends = to_each (λ (p : ℕ × SimPart). record { sim = p.0; call = SetupDone }) (λ p. refl) n 0 S.sims (omega arith) in
-    let creates = to_groups n S.groups wellformed.groups in
-    each_at (λ (q : Request). q.sim < n) (setup_requests S) k r (each_both (λ (q : Request). q.sim < n) _ _ (each_both (λ (q : Request). q.sim < n) _ _ inits creates) ends) there
-
 -- ---- one plan
-
-ok_same : {A E : Type 0} (x y : A) (r : Result A E) → r ≡ Ok x → r ≡ Ok y → x ≡ y
-ok_same x y r a b = let same : Ok x ≡ Ok y = sym a ∙ b in cc
-
-one_answer : (rows : List Turn) (S : Scenario) (k : ℕ) (r : Request) (m n : Message) → IsKindAnswer rows S k r m → IsKindAnswer rows S k r n → m ≡ n
-one_answer rows S k r m n a b =
-    let sims : a.sim ≡ b.sim = some_same (sym a.before ∙ b.before) in
-    some_same (sym a.reply ∙ ap (λ (L : Simulator). call_reply L (id_before S k r.sim) r.call) sims ∙ b.reply)
 
 pub one_answers : (rows : List Turn) (S : Scenario) → IsWellformed S → is_wholly_within S ≡ true → (answers also : List Message) → length answers ≡ length (setup_requests S) → length also ≡ length (setup_requests S) → AreKindAnswers rows S answers → AreKindAnswers rows S also → answers ≡ also
 one_answers rows S wellformed all answers also count counted ours theirs = same_lists answers also (count ∙ sym counted)
@@ -101,13 +79,13 @@ one_answers rows S wellformed all answers also count counted ours theirs = same_
     let r = below_get (setup_requests S) k (omega (arith, low, count)) in
     let m = below_get answers k low in
     let n = below_get also k (omega (arith, low, count, counted)) in
-    let within = within_low S all r.0.sim (goes_there S wellformed k r.0 r.1) in
+    let within = within_low S all r.0.sim (low_request S wellformed k r.0 r.1) in
     m.1 ∙ ap (λ (x : Message). Some x) (one_answer rows S k r.0 m.0 n.0 (ours k r.0 m.0 r.1 m.1 within) (theirs k r.0 n.0 r.1 n.1 within)) ∙ sym n.1)
 
 pub one_plan : (S : Scenario) (ranks : List ℕ) (answers : List Message) (P Q : Plan) → IsMade S ranks answers P → IsMade S ranks answers Q → P ≡ Q
 one_plan S ranks answers P Q a b =
-    let states = ok_same a.state b.state (reached S ranks answers) a.reached b.reached in
-    ok_same P Q (plan_of b.state) (sym (ap plan_of states) ∙ a.plan) b.plan
+    let states = same_ok a.state b.state (reached S ranks answers) a.reached b.reached in
+    same_ok P Q (plan_of b.state) (sym (ap plan_of states) ∙ a.plan) b.plan
 
 -- ---- one text
 
@@ -173,7 +151,7 @@ same_of_files : KindsFit → (O Q : Outside) (wanted also : Bool) (bytes text ot
 same_of_files fits O Q wanted also bytes text other kept saved kinds all (inl none) b = let wrong = none.is in absurd cc
 same_of_files fits O Q wanted also bytes text other kept saved kinds all (inr a) (inl none) = let wrong = none.is in absurd cc
 same_of_files fits O Q wanted also bytes text other kept saved kinds all (inr a) (inr b) =
-    let one : b.scenario ≡ a.scenario = ok_same b.scenario a.scenario (scenario_of bytes) b.read a.read in
+    let one : b.scenario ≡ a.scenario = same_ok b.scenario a.scenario (scenario_of bytes) b.read a.read in
     same fits O Q Report wanted also a.scenario text other kept saved kinds a.wellformed (all a.scenario a.read) (was_played O Report wanted a.scenario text kept a.outcome)
     (was_played Q Report also a.scenario other saved (subst (λ (X : Scenario). IsScenarioOutcome Q Report also X (Ok other) saved) one b.outcome))
 

@@ -9,10 +9,7 @@ use Rattle.mosaikrun_words.specs.inner.Arranged.{long, name_of}
 use Rattle.mosaikrun_words.specs.Words.{Text, is_value}
 use Rattle.mosaikrun_words.specs.declared.request.OptionName.{OptionName}
 use Rattle.mosaikrun_words.specs.declared.request.OptionName.TheVariants.{Record, Order, Strict}
-
-no_hyphen : (b : Bool) → not b ≡ true → b ≡ false
-no_hyphen true e = absurd (true≢false (sym e))
-no_hyphen false e = refl
+use Rattle.mk_base.proofs.Bools.{not_true}
 
 -- the words are taken, and the value is found under the name
 pub record Gives (a : App) (words : List Text) (id value : Text) : Type 0 where
@@ -23,7 +20,7 @@ pub record Gives (a : App) (words : List Text) (id value : Text) : Type 0 where
 pub one_gives : (s : Text) → is_value s ≡ true → Gives one_app (s ∷ []) (codes "first") s
 unfolding clap_on_literals
 one_gives [] h = absurd (true≢false (sym h))
-one_gives (x ∷ xs) h = let e = no_hyphen (x == 45) h in record { simple = refl; takes = simp e refl; found = simp e refl }
+one_gives (x ∷ xs) h = let e = not_true (x == 45) h in record { simple = refl; takes = simp e refl; found = simp e refl }
 
 pub option_gives : (o : OptionName) (s v : Text) → is_value s ≡ true → is_value v ≡ true
     → Gives (option_app (name_of o)) (s ∷ long (name_of o) ∷ v ∷ []) (codes "first") s × Gives (option_app (name_of o)) (s ∷ long (name_of o) ∷ v ∷ []) (name_of o) v
@@ -31,13 +28,13 @@ unfolding clap_on_literals
 option_gives o [] v h k = absurd (true≢false (sym h))
 option_gives o (x ∷ xs) [] h k = absurd (true≢false (sym k))
 option_gives Record (x ∷ xs) (y ∷ ys) h k =
-    let e = no_hyphen (x == 45) h in let d = no_hyphen (y == 45) k in
+    let e = not_true (x == 45) h in let d = not_true (y == 45) k in
     (record { simple = refl; takes = simp (e, d) refl; found = simp (e, d) refl }, record { simple = refl; takes = simp (e, d) refl; found = simp (e, d) refl })
 option_gives Order (x ∷ xs) (y ∷ ys) h k =
-    let e = no_hyphen (x == 45) h in let d = no_hyphen (y == 45) k in
+    let e = not_true (x == 45) h in let d = not_true (y == 45) k in
     (record { simple = refl; takes = simp (e, d) refl; found = simp (e, d) refl }, record { simple = refl; takes = simp (e, d) refl; found = simp (e, d) refl })
 option_gives Strict (x ∷ xs) (y ∷ ys) h k =
-    let e = no_hyphen (x == 45) h in let d = no_hyphen (y == 45) k in
+    let e = not_true (x == 45) h in let d = not_true (y == 45) k in
     (record { simple = refl; takes = simp (e, d) refl; found = simp (e, d) refl }, record { simple = refl; takes = simp (e, d) refl; found = simp (e, d) refl })
 
 -- the same, where the option's name and its spelling are known
@@ -52,7 +49,7 @@ unfolding clap_on_literals
 two_gives [] t h k = absurd (true≢false (sym h))
 two_gives (x ∷ xs) [] h k = absurd (true≢false (sym k))
 two_gives (x ∷ xs) (y ∷ ys) h k =
-    let e = no_hyphen (x == 45) h in let d = no_hyphen (y == 45) k in
+    let e = not_true (x == 45) h in let d = not_true (y == 45) k in
     (record { simple = refl; takes = simp (e, d) refl; found = simp (e, d) refl }, record { simple = refl; takes = simp (e, d) refl; found = simp (e, d) refl })
 
 -- what `clap` found is what it gives

@@ -22,6 +22,8 @@ use Rattle.mosaikrun_words.specs.Words.{Given, Text, is_value}
 use Rattle.mosaikrun_words.proofs.Groups.{AreGroups, sorted_is, sorted_so, spelled_so}
 use Rattle.mosaikrun_words.proofs.Spelled.{AreValues, IsFound, found_is, found_of, number_from, number_is, only_is, only_of, two_is, two_of, word_with_from, word_with_is}
 use Rattle.mk_base.specs.Limits.{most_milliseconds}
+use Rattle.mk_base.proofs.Items.{each_append}
+use Rattle.mk_base.proofs.Bools.{both_hold}
 
 -- a request and the word of its command before the rest
 abbrev IsRest : Command → List Text → Request → Type 0
@@ -32,10 +34,6 @@ spelled_by word name rest f found = record { rest = rest; is = refl; spelled = f
 
 spelled_alone : (word : Text) (rest : List Text) (t : Text) → rest ≡ t ∷ [] → is_value t ≡ true → IsSpelled word (t ∷ []) [] (word ∷ rest)
 spelled_alone word rest t is h = record { rest = rest; is = refl; spelled = inl is; plain_values = (h, tt); given_values = tt }
-
-each_append : {X : Type 0} (P : X → Type 0) (xs ys : List X) → Each P xs → Each P ys → Each P (xs ++ ys)
-each_append P [] ys h k = k
-each_append P (x ∷ xs) ys h k = (h.0, each_append P xs ys h.1 k)
 
 each_split : {X : Type 0} (P : X → Type 0) (xs ys : List X) → Each P (xs ++ ys) → Each P xs × Each P ys
 each_split P [] ys h = (tt, h)
@@ -208,10 +206,6 @@ right command.Resume = resume_right
 right command.Paced = paced_right
 right (command.Pair c) = pair_right c
 
-both_true : (a b : Bool) → (a && b) ≡ true → (a ≡ true) × (b ≡ true)
-both_true true b e = (refl, e)
-both_true false b e = cc
-
 among_right : {A : Type 0} (read : A → Text) (commands : List (A × Command)) (word : Text) (rest : List Text) (R : Request) → have_words read commands ≡ true → request_among read commands word rest ≡ Some R → IsRequest (word ∷ rest) R
 among_right read [] word rest R all e = cc
 among_right read (t ∷ commands) word rest R all e = elim (same_text word (read t.0)) as (λ b. same_text word (read t.0) ≡ b → cond b (request_by t.1 rest) (request_among read commands word rest) ≡ Some R → IsRequest (word ∷ rest) R) [
@@ -223,7 +217,7 @@ among_right read (t ∷ commands) word rest R all e = elim (same_text word (read
 ] refl e
   where
     both : (same_text (read t.0) (word_of t.1) ≡ true) × (have_words read commands ≡ true)
-    both = both_true (same_text (read t.0) (word_of t.1)) (have_words read commands) all
+    both = both_hold (same_text (read t.0) (word_of t.1)) (have_words read commands) all
 
 -- what is right is found
 

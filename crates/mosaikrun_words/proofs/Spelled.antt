@@ -11,6 +11,7 @@ use Rattle.mosaikrun_words.specs.inner.Arranged.{alone, behind, long, number_in,
 use Rattle.mosaikrun_words.specs.Numbers.{IsNumber, most_digits}
 use Rattle.mosaikrun_words.specs.Requests.{if_given}
 use Rattle.mosaikrun_words.specs.Words.{Given, Text, is_value, spellings}
+use Rattle.mk_base.proofs.Bools.{both_hold}
 
 same_self : (t : Text) → same_text t t ≡ true
 same_self t = (bytes_eq-Decides t t).1 refl
@@ -51,10 +52,6 @@ pub record IsFound (name : Text) (words : List Text) (f : Found) : Type 0 where
 abbrev with : Text → Text → Found
 with w v = record { word = w; value = Some v }
 
-both_true : (a b : Bool) → (a && b) ≡ true → (a ≡ true) × (b ≡ true)
-both_true true b e = (refl, e)
-both_true false b e = absurd (true≢false (sym e))
-
 -- a pair that is made is made of values
 record IsPair (w : Text) (o : Option Text) (f : Found) : Type 0 where
   value : Text
@@ -66,7 +63,7 @@ record IsPair (w : Text) (o : Option Text) (f : Found) : Type 0 where
 pair_is : (w : Text) (o : Option Text) (f : Found) → pair w o ≡ Some f → IsPair w o f
 pair_is w None f e = cc
 pair_is w (Some v) f e = elim (is_value w && is_value v) as (λ b. (is_value w && is_value v) ≡ b → cond b (Some (with w v)) None ≡ Some f → IsPair w (Some v) f) [
-  | true ↦ λ t h. let p = both_true (is_value w) (is_value v) t in let same : with w v ≡ f = cc in record { value = v; given = refl; word_is = p.0; value_is = p.1; is = sym same }
+  | true ↦ λ t h. let p = both_hold (is_value w) (is_value v) t in let same : with w v ≡ f = cc in record { value = v; given = refl; word_is = p.0; value_is = p.1; is = sym same }
   | false ↦ λ t h. cc
 ] refl e
 
@@ -189,7 +186,7 @@ two_is [] t e = cc
 two_is (a ∷ []) t e = cc
 two_is (a ∷ b ∷ []) t e = elim (is_value a && is_value b) as (λ z. (is_value a && is_value b) ≡ z → cond z (Some (let x : Two = record { first = a; second = b } in x)) None ≡ Some t → (a ∷ b ∷ [] ≡ t.first ∷ t.second ∷ []) × (is_value t.first ≡ true) × (is_value t.second ≡ true)) [
   | true ↦ λ h k.
-      let p = both_true (is_value a) (is_value b) h in
+      let p = both_hold (is_value a) (is_value b) h in
       let made : Two = record { first = a; second = b } in
       let same : made ≡ t = cc in
       (ap (λ (x : Two). x.first ∷ x.second ∷ []) same, sym (ap (λ (x : Two). is_value x.first) same) ∙ p.0, sym (ap (λ (x : Two). is_value x.second) same) ∙ p.1)
@@ -209,10 +206,10 @@ module _ (least most : ℕ) (text : Text) where
   pub number_is : (n : ℕ) → number_in least most text ≡ Some n → IsNumber least most n text
   number_is n e = elim test as (λ b. test ≡ b → cond b (Some (number_of text)) None ≡ Some n → IsNumber least most n text) [
     | true ↦ λ h k.
-        let p = both_true _ (nat_le (number_of text) most) h in
-        let q = both_true _ (nat_le least (number_of text)) p.0 in
-        let r = both_true _ (list_all is_digit text) q.0 in
-        let s = both_true (nat_le 1 (length text)) (nat_le (length text) most_digits) r.0 in
+        let p = both_hold _ (nat_le (number_of text) most) h in
+        let q = both_hold _ (nat_le least (number_of text)) p.0 in
+        let r = both_hold _ (list_all is_digit text) q.0 in
+        let s = both_hold (nat_le 1 (length text)) (nat_le (length text) most_digits) r.0 in
         let some_there : nat_le 1 (length text) ≡ true = s.0 in
         let few_there : nat_le (length text) 10 ≡ true = s.1 in
         let low_there : nat_le least (number_of text) ≡ true = q.1 in

@@ -11,12 +11,12 @@ use Rattle.mk_plan.specs.Turns.{want_order}
 use Rattle.mk_plan_judge.specs.declared.all_wants.Taking.{Taking}
 
 -- what is taken
-abbrev pub want_of : Taking → Want
-want_of t = record { eid = t.eid.now; attr = t.attr.now }
+abbrev pub want_taken : Taking → Want
+want_taken t = record { eid = t.eid.now; attr = t.attr.now }
 
 -- by the entity's name, then the attribute's
 abbrev pub taking_order : Taking → Taking → Ordering
-taking_order t u = want_order (want_of t) (want_of u)
+taking_order t u = want_order (want_taken t) (want_taken u)
 
 -- the connection takes it
 pub record IsTakenBy (P : Plan) (c : Conn) (t : Taking) : Type 0 where
@@ -31,7 +31,7 @@ pub record AreTakings (P : Plan) (cs : List Conn) (ts : List Taking) : Type 0 wh
 
 -- what is taken of simulator s, in order, each once
 abbrev pub wants_of : ℕ → List Taking → List Want
-wants_of s ts = fold (λ ws t. put want_order (want_of t) ws) [] (filter (λ t. t.sim == s) ts)
+wants_of s ts = fold (λ ws t. put want_order (want_taken t) ws) [] (filter (λ t. t.sim == s) ts)
 
 -- the same of each of n simulators
 pub record AreWantsOf (n : ℕ) (ts : List Taking) (lists : List (List Want)) : Type 0 where
@@ -41,7 +41,7 @@ pub record AreWantsOf (n : ℕ) (ts : List Taking) (lists : List (List Want)) : 
 -- the lists, with what is taken put into that of its simulator
 abbrev pub with_want : Taking → List (List Want) → List (List Want)
 with_want t lists = slice_set lists t.sim
-    (put want_order (want_of t) (unwrap_or (slice_get lists t.sim) []))
+    (put want_order (want_taken t) (unwrap_or (slice_get lists t.sim) []))
 
 -- no item of these comes behind the want
 abbrev pub NoneIsBehind : Want → List Want → Type 0

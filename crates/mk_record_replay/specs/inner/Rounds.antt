@@ -8,7 +8,7 @@ use Rattle.mk_plan.specs.Plans.{sim_count}
 use Rattle.mk_plan.specs.Journals as journals
 use Rattle.mk_plan.specs.Journals.{arrivals}
 use Rattle.mk_sched.specs.declared.faults.CoreFault.{CoreFault}
-use Rattle.mk_sched.specs.Cores.{CoreState, is_message_in_range}
+use Rattle.mk_sched.specs.Cores.{CoreState}
 use Rattle.mk_sched.specs.Answers.{open_id}
 use Rattle.mk_record_replay.specs.declared.replaying.ReplayEnd.{ReplayEnd}
 use Rattle.mk_record_replay.specs.declared.replaying.ReplayEnd.TheVariants.{Core}
@@ -17,6 +17,7 @@ use Rattle.mk_record_replay.specs.declared.ordering.Given.TheVariants.{Going, No
 use Rattle.mk_record_replay.specs.Replays.{messages_from}
 use Rattle.mk_record_replay.specs.inner.Loops.{IsOnWay, GivenBy}
 use Rattle.mk_record_replay.specs.Orders.{IsInOrder, IsReplayInOrder, SameMessages, number_after}
+use Rattle.mk_plan.specs.Messages.{is_message_in_range}
 
 -- the messages of each simulator that have to come, behind those that came: the next one is the
 -- last

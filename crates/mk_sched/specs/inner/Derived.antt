@@ -34,9 +34,10 @@ use Rattle.mk_sched.specs.declared.faults.Taken.{Taken}
 use Rattle.mk_sched.specs.declared.faults.Taken.TheVariants as taken
 use Rattle.mk_sched.specs.declared.taking.Upshot.{Upshot}
 use Rattle.mk_sched.specs.declared.taking.Upshot.TheVariants as upshot
-use Rattle.mk_sched.specs.Cores.{CoreState, is_message_in_range}
+use Rattle.mk_sched.specs.Cores.{CoreState}
 use Rattle.mk_sched.specs.Answers.{NextOf, ArriveOf}
 use Rattle.mk_sched.specs.inner.Holding.{HasGivenUp}
+use Rattle.mk_plan.specs.Messages.{is_message_in_range}
 
 -- what was derived stands for the view of a journal of n entries; nothing is owed, and there is no
 -- fault

@@ -5,12 +5,12 @@ use Rattle.mk_base.specs.declared.json.Json.{Json}
 use Rattle.mk_plan.specs.Inputs.{value_at}
 use Rattle.mk_async.specs.inner.Content.{AreContents, IsContent, values_of, want_text}
 use Rattle.mk_async.specs.inner.Known.{knows_want}
-use Rattle.mk_async.proofs.Giving.{all_at}
 use Rattle.mk_async.proofs.Writing.{commas_more, each_more}
 use Rattle.mk_async.proofs.data.put_more_wants.Goals as goal
+use Rattle.mk_base.proofs.Items.{passes_at}
 
 pub put_want-requires-clause-known : goal.put_want-requires-clause-known
-put_want-requires-clause-known c = all_at (λ (m : List ℕ × Json). knows_want c.args.plan.now m.0 m.1) c.args.wants.now c.loop-want.want-index c.want-item.result c.requires.known c.loop-want-test.true c.want-item.is
+put_want-requires-clause-known c = passes_at (λ (m : List ℕ × Json). knows_want c.args.plan.now m.0 m.1) c.args.wants.now c.loop-want.want-index c.want-item.result c.requires.known c.loop-want-test.true c.want-item.is
 
 pub loop-want-init : goal.loop-want-init
 loop-want-init c = ((λ S stands. sym (append-nil c.args.text.now.items)), λ S stands. tt)

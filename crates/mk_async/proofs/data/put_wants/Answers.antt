@@ -5,23 +5,23 @@ use Rattle.mk_plan.specs.Inputs.{value_at}
 use Rattle.mk_json.proofs.OfOutlines.{split_first}
 use Rattle.mk_async.specs.inner.Content.{AreContents}
 use Rattle.mk_async.specs.inner.Known.{Members, knows_want, knows_wants}
-use Rattle.mk_async.proofs.Giving.{first_of, rest_of}
 use Rattle.mk_async.proofs.Writing.{wants_written}
 use Rattle.mk_async.proofs.data.put_wants.Goals as goal
+use Rattle.mk_base.proofs.Bools.{first_holds, second_holds}
 
 pub put_want-requires-clause-known : goal.put_want-requires-clause-known
 put_want-requires-clause-known c =
     let ms : Members = c.args.wants.now in
     let m : List ℕ × Json = c.first-item.result in
     let rest : Members = take (length ms - 1) (drop 1 ms) in
-    first_of (knows_want c.args.plan.now m.0 m.1) (knows_wants c.args.plan.now rest) (ap (knows_wants c.args.plan.now) (sym (split_first ms m (omega arith) c.first-item.is)) ∙ c.requires.known)
+    first_holds (knows_want c.args.plan.now m.0 m.1) (knows_wants c.args.plan.now rest) (ap (knows_wants c.args.plan.now) (sym (split_first ms m (omega arith) c.first-item.is)) ∙ c.requires.known)
 
 pub put_more_wants-requires-clause-known : goal.put_more_wants-requires-clause-known
 put_more_wants-requires-clause-known c =
     let ms : Members = c.args.wants.now in
     let m : List ℕ × Json = c.first-item.result in
     let rest : Members = take (length ms - 1) (drop 1 ms) in
-    rest_of (knows_want c.args.plan.now m.0 m.1) (knows_wants c.args.plan.now rest) (ap (knows_wants c.args.plan.now) (sym (split_first ms m (omega arith) c.first-item.is)) ∙ c.requires.known)
+    second_holds (knows_want c.args.plan.now m.0 m.1) (knows_wants c.args.plan.now rest) (ap (knows_wants c.args.plan.now) (sym (split_first ms m (omega arith) c.first-item.is)) ∙ c.requires.known)
 
 pub returns-in_ok-put-in-len1-up-2-clause-written : goal.returns-in_ok-put-in-len1-up-2-clause-written
 returns-in_ok-put-in-len1-up-2-clause-written c = λ S stands.

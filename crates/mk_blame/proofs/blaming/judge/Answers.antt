@@ -5,8 +5,9 @@ use Rattle.mk_plan.specs.declared.Message.{Message}
 use Rattle.mk_plan.specs.Acts.{Told, Heard}
 use Rattle.mk_base.proofs.AtPlaces.{map_item}
 use Rattle.mk_blame.specs.Talks.{said}
-use Rattle.mk_blame.proofs.Parts.{blamed_there, length_map, never_first, one_ends_alike, one_ends_differ, one_is, other_is, part_alike, part_differ, part_low, part_under}
+use Rattle.mk_blame.proofs.Parts.{blamed_there, never_first, one_ends_alike, one_ends_differ, one_is, other_is, part_alike, part_differ, part_low, part_under}
 use Rattle.mk_blame.proofs.blaming.judge.Goals as goal
+use Rattle.mk_base.proofs.Items.{length_map}
 
 told_heard : (item : Item) (m : Message) → Told item ≡ Heard m → ⊥
 told_heard item m e = cc

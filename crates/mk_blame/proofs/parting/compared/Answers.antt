@@ -3,8 +3,9 @@ use Rattle.std.proofs.Common.{◌<◌, ◌≤◌, subst, sym, arith}
 use Rattle.mk_plan_same.proofs.Pairs.{next_same}
 use Rattle.mk_base.proofs.AtPlaces.{map_get, map_item}
 use Rattle.mk_blame.specs.Talks.{said}
-use Rattle.mk_blame.proofs.Parts.{all_the_same, counted, ends_at, goes_on_at, length_map, one_at_most, parts_at, stepped}
+use Rattle.mk_blame.proofs.Parts.{all_the_same, counted, ends_at, goes_on_at, one_at_most, parts_at, stepped}
 use Rattle.mk_blame.proofs.parting.compared.Goals as goal
+use Rattle.mk_base.proofs.Items.{length_map}
 
 pub returns-then-number-other : goal.returns-then-number-other
 returns-then-number-other c = ends_at _ _ c.loop-number.number (said c.index-talk-number.result.now)

@@ -2,8 +2,8 @@
 use Rattle.std.proofs.Common.{None, sym, subst, ◌∙◌}
 use Rattle.mk_base.specs.declared.tier.Via.{Via}
 use Rattle.mk_buffers_log.specs.inner.Logs.{IsOutdoneAt}
-use Rattle.mk_buffers_log.proofs.Sparing.{not_true}
 use Rattle.mk_buffers_log.proofs.log.is_spare.Goals as goal
+use Rattle.mk_base.proofs.Bools.{not_true}
 
 pub returns-clause-spare : goal.returns-clause-spare
 returns-clause-spare c = λ h. record {

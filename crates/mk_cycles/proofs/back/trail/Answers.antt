@@ -2,9 +2,10 @@
 use Rattle.std.proofs.Common.{ℕ, arith}
 use Rattle.mk_cycles.specs.Cycles.{IsBack, IsGoneBackTo, at_least, further}
 use Rattle.mk_cycles.specs.inner.Tables.{leads}
-use Rattle.mk_cycles.proofs.Chains.{chain_push, each_push}
+use Rattle.mk_cycles.proofs.Chains.{chain_push}
 use Rattle.mk_cycles.proofs.Loops.{reached_left}
 use Rattle.mk_cycles.proofs.back.trail.Goals as goal
+use Rattle.mk_base.proofs.Items.{each_behind}
 
 pub going-init : goal.going-init
 going-init c =
@@ -35,6 +36,6 @@ going-preserved c =
     rw c.in_ok-push.ensures.ok record {
       count = c.going.invariant.count;
       here = further c.going.sim c.back-sim.result c.going.invariant.here c.back-sim.ensures;
-      reached = each_push P c.going.path.order c.going.sim c.going.invariant.reached c.going.invariant.here;
+      reached = each_behind P c.going.path.order c.going.sim c.going.invariant.reached c.going.invariant.here;
       chain = chain_push R c.going.path.order c.going.sim c.back-sim.result c.going.invariant.chain c.back-sim.ensures;
     }

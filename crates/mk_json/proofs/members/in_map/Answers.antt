@@ -4,8 +4,9 @@ use Rattle.std.specs.Ordering.{nat_cmp}
 use Rattle.std.specs.Cmp.Lexicographic.{slice_cmp}
 use Rattle.std.specs.BTreeMap.{insert_entry}
 use Rattle.mk_json.specs.inner.Gathered.{put_all, named}
-use Rattle.mk_json.proofs.Gathering.{none_left, named-insert_entry}
+use Rattle.mk_json.proofs.Gathering.{named-insert_entry}
 use Rattle.mk_json.proofs.members.in_map.Goals as goal
+use Rattle.mk_base.proofs.Items.{none_left}
 
 pub loop-name-init : goal.loop-name-init
 loop-name-init c = ap₂ put_all (ap named c.new-found.ensures.empty) (c.into_iter-name-iterator.ensures.into_iter_gives.0 ∙ c.into_vec-name-items.ensures)

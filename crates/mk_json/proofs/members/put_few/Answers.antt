@@ -1,8 +1,8 @@
 -- Answers to the goals of `members::put_few` that the prover leaves.
 use Rattle.std.proofs.Common.{sym, ap, ap₂, ◌∙◌}
 use Rattle.mk_json.specs.inner.Gathered.{put_all}
-use Rattle.mk_json.proofs.Gathering.{none_left}
 use Rattle.mk_json.proofs.members.put_few.Goals as goal
+use Rattle.mk_base.proofs.Items.{none_left}
 
 pub loop-name-init : goal.loop-name-init
 loop-name-init c = ap₂ put_all c.new-found.ensures (c.into_iter-name-iterator.ensures.into_iter_gives.0 ∙ c.into_vec-name-items.ensures)

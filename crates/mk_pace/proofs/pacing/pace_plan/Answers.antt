@@ -5,10 +5,10 @@ use Rattle.mk_outside.specs.declared.paced.Now.TheVariants.{At, Failed}
 use Rattle.mk_base.specs.declared.LinkNo.{LinkNo}
 use Rattle.mk_run_links.specs.Places.{AreOpen, IsChannelLink}
 use Rattle.mk_run_links.proofs.OnEntries.{on_no_clock}
-use Rattle.mk_run.proofs.Turning.{risen_later}
 use Rattle.mk_pace.proofs.Early.{clock_failed}
 use Rattle.mk_pace.proofs.Telling.{rising_clockless, rising_more, rising_now}
 use Rattle.mk_pace.proofs.pacing.pace_plan.Goals as goal
+use Rattle.mk_run_links.proofs.OnStops.{risen_later}
 
 pub returns-in-At-clause-ran : goal.returns-in-At-clause-ran
 returns-in-At-clause-ran g c =

@@ -14,11 +14,11 @@ use Rattle.mk_run_local.specs.Calls.{IsFitSuccess}
 use Rattle.mk_run_crew.specs.Calls.{TriesAs}
 use Rattle.mk_run_crew.specs.Seen.{crew_of}
 use Rattle.mk_run.specs.declared.outcome.Outcome.{Outcome}
-use Rattle.mk_run.proofs.Turning.{risen_on}
 use Rattle.mk_pace_loop.specs.inner.Turns.{AttendsAs}
 use Rattle.mk_pace_loop.proofs.Risen.{clockless_rises, rises_on}
 use Rattle.mk_pace_loop.proofs.Turning.{heard_attends, met_form, met_it, met_there, napped, napped_rises, unheard_attends}
 use Rattle.mk_pace_loop.proofs.pacing.attend.Goals as goal
+use Rattle.mk_session.proofs.Polling.{risen_after}
 
 pub take-requires-clause-there : goal.take-requires-clause-there
 take-requires-clause-there g c =
@@ -75,7 +75,7 @@ returns-in-Ok-None-clause-attended g c =
       adds_more h.0 n.0 _ _ _ h.1 n.1,
       napped _ c.args.told c.args.core.now h.0 c.args.crew.now c.try_hear.new.self c.args.waiting.now c.requires.waits c.requires.early c.requires.going k c.in-Ok-None.ensures.same_sims
           (HasRisen (g.F.Fleet.faults c.try_hear.new.fleet) (g.F.Fleet.faults c.nap.new.fleet)) n.0 c.nap.result
-          (λ r. risen_on (g.F.Fleet.faults c.args.fleet.now) (g.F.Fleet.faults c.try_hear.new.fleet) (g.F.Fleet.faults c.nap.new.fleet) c.in-Ok-None.ensures.count r) n.2,
+          (λ r. risen_after (g.F.Fleet.faults c.args.fleet.now) (g.F.Fleet.faults c.try_hear.new.fleet) (g.F.Fleet.faults c.nap.new.fleet) c.in-Ok-None.ensures.count r) n.2,
     )
 
 pub returns-in-Ok-None-clause-rising : goal.returns-in-Ok-None-clause-rising

@@ -2,10 +2,10 @@
 use Rattle.std.proofs.Common.{◌∙◌, refl, sym, subst, arith, ◌++◌}
 use Rattle.mk_local.specs.Registries.{rows_in}
 use Rattle.mk_run.specs.inner.Turns.{AreLinksOpen}
-use Rattle.mk_run.proofs.Turning.{risen_on}
 use Rattle.mk_pace_loop.proofs.Risen.{rises_none, rises_on}
 use Rattle.mk_pace_loop.proofs.Turning.{gone_on, gone_to_end, none_gone, on_tempo, same_tempo, still_on, still_same}
 use Rattle.mk_pace_loop.proofs.pacing.drive.Goals as goal
+use Rattle.mk_session.proofs.Polling.{risen_after}
 
 pub loop-init : goal.loop-init
 loop-init g c = record {
@@ -49,7 +49,7 @@ returns-in-Err-clause-ended g c =
     let so_far = c.loop.invariant in
     let now = c.in-Err.ensures in
     gone_to_end _ _ c.args.core.now c.loop.core c.turn.new.core c.args.crew.now c.loop.crew c.turn.new.crew c.args.waiting.now c.loop.waiting c.turn.new.waiting _ _ _ now.turned.0 c.in-Err.end
-    (λ r. risen_on (g.F.Fleet.faults c.args.fleet.now) (g.F.Fleet.faults c.loop.fleet) (g.F.Fleet.faults c.turn.new.fleet) so_far.counted r) so_far.gone now.turned.1 now.turned.2
+    (λ r. risen_after (g.F.Fleet.faults c.args.fleet.now) (g.F.Fleet.faults c.loop.fleet) (g.F.Fleet.faults c.turn.new.fleet) so_far.counted r) so_far.gone now.turned.1 now.turned.2
 
 pub returns-in-Err-clause-rising : goal.returns-in-Err-clause-rising
 returns-in-Err-clause-rising g c = rises_on _ _ _ c.loop.invariant.rising c.in-Err.ensures.rising

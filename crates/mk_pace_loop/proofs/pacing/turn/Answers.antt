@@ -3,10 +3,10 @@ use Rattle.std.proofs.Common.{[], ◌∷◌, ◌++◌, refl, sym, subst}
 use Rattle.mk_outside.specs.declared.fleet.LogEntry.TheVariants.{Told}
 use Rattle.mk_outside.proofs.OnLogs.{adds_more, adds_none}
 use Rattle.mk_run.specs.inner.Turns.{AreLinksOpen}
-use Rattle.mk_run.proofs.Turning.{risen_on}
 use Rattle.mk_pace_loop.proofs.Risen.{clockless_rises, rises_none, rises_on, told_rises}
 use Rattle.mk_pace_loop.proofs.Turning.{asked_end, on_tempo, told_on, turned, untold_end}
 use Rattle.mk_pace_loop.proofs.pacing.turn.Goals as goal
+use Rattle.mk_session.proofs.Polling.{risen_after}
 
 pub returns-in-Err-clause-turned : goal.returns-in-Err-clause-turned
 returns-in-Err-clause-turned g c = ([], adds_none _, asked_end _ c.args.core.now c.ask_all.new.core c.args.crew.now c.args.waiting.now c.ask_all.new.waiting c.in-Err.end c.in-Err.ensures.asked)
@@ -31,7 +31,7 @@ returns-in-At-clause-turned g c =
       Told c.in-At.told ∷ [] ++ p.0,
       adds_more (Told c.in-At.told ∷ []) p.0 _ _ _ c.in-At.ensures.logged p.1,
       turned _ _ c.in-At.told c.args.core.now c.ask_all.new.core c.pass.new.core p.0 c.args.crew.now c.pass.new.crew c.args.waiting.now c.ask_all.new.waiting c.pass.new.waiting c.pass.result
-          (λ r. risen_on (g.F.Fleet.faults c.args.fleet.now) (g.F.Fleet.faults c.now.new.self) (g.F.Fleet.faults c.pass.new.fleet) c.in-At.ensures.count r) c.in_default.ensures.asked p.2,
+          (λ r. risen_after (g.F.Fleet.faults c.args.fleet.now) (g.F.Fleet.faults c.now.new.self) (g.F.Fleet.faults c.pass.new.fleet) c.in-At.ensures.count r) c.in_default.ensures.asked p.2,
     )
 
 pub returns-in-At-clause-rising : goal.returns-in-At-clause-rising

@@ -7,7 +7,7 @@ use Rattle.std.proofs.lemmas.Map.Text.{is_eq-slice_cmp}
 use Rattle.mk_base.specs.Lists.{same_text, text_order}
 use Rattle.mk_plan.specs.declared.Want.{Want}
 use Rattle.mk_plan.specs.Turns.{want_order}
-use Rattle.mk_plan_judge.specs.inner.Takings.{want_of}
+use Rattle.mk_plan_judge.specs.inner.Takings.{want_taken}
 use Rattle.mk_plan_judge.proofs.all_wants.is_same.Goals as goal
 
 both : (o p : Ordering) → is_eq o && is_eq p ≡ is_eq (ordering_then o p)
@@ -30,8 +30,8 @@ where_other v w xs ys b is one two failed =
     failed ∙ ap (λ c. c && same_text v.attr w.attr) first ∙ same_test v w
 
 pub returns-then-eq : goal.returns-then-eq
-returns-then-eq c = where_same c.args.want.now (want_of c.args.taking.now) c.bytes.result.now c.bytes-2.result.now c.eq.result c.eq-then-eq.result c.eq.ensures c.bytes.ensures.same c.bytes-2.ensures.same c.if-eq.true
+returns-then-eq c = where_same c.args.want.now (want_taken c.args.taking.now) c.bytes.result.now c.bytes-2.result.now c.eq.result c.eq-then-eq.result c.eq.ensures c.bytes.ensures.same c.bytes-2.ensures.same c.if-eq.true
     (c.eq-then-eq.ensures ∙ ap (λ l. same_text l c.bytes-then-eq-2.result.now) c.bytes-then-eq.ensures.same ∙ ap (same_text c.args.want.now.attr) c.bytes-then-eq-2.ensures.same)
 
 pub returns-else-eq : goal.returns-else-eq
-returns-else-eq c = where_other c.args.want.now (want_of c.args.taking.now) c.bytes.result.now c.bytes-2.result.now c.eq.result c.eq.ensures c.bytes.ensures.same c.bytes-2.ensures.same c.if-eq.false
+returns-else-eq c = where_other c.args.want.now (want_taken c.args.taking.now) c.bytes.result.now c.bytes-2.result.now c.eq.result c.eq.ensures c.bytes.ensures.same c.bytes-2.ensures.same c.if-eq.false

@@ -5,12 +5,13 @@ use Rattle.mk_plan.specs.declared.Entry.{Entry}
 use Rattle.mk_plan.specs.Plans.{sim_count}
 use Rattle.mk_record_read.specs.declared.saved.Arrival.{Arrival}
 use Rattle.mk_record_read.specs.Seen.{came}
-use Rattle.mk_sched.specs.Cores.{CoreState, is_message_in_range}
+use Rattle.mk_sched.specs.Cores.{CoreState}
 use Rattle.mk_record_replay.specs.Orders.{IsReplayInOrder}
 use Rattle.mk_record_replay.specs.inner.Rounds.{AreWaiting, HasEnded}
 use Rattle.mk_record_replay.proofs.Known.{messages_of_record}
 use Rattle.mk_record_replay.proofs.RoundsGiven.{between_first}
 use Rattle.mk_record_replay.proofs.replaying.in_order.Goals as goal
+use Rattle.mk_plan.specs.Messages.{is_message_in_range}
 
 pub split-requires : goal.split-requires
 split-requires c = subst (λ n. All (λ (a : Arrival). (a.sim.0 < n) × (is_message_in_range a.message ≡ true)) c.args.saved.arrivals) (sym c.len.ensures) (messages_of_record c.args.saved.plan c.args.saved.arrivals c.requires.known)

@@ -7,10 +7,10 @@ use Rattle.mk_plan.specs.Journals.{sent}
 use Rattle.mk_plan.specs.Report.{summary, counts}
 use Rattle.mk_record_report.specs.declared.tallies.Tally.{Tally}
 use Rattle.mk_record_report.specs.inner.Summary.{IsTally, all_values, steps_at}
-use Rattle.mk_record_report.proofs.Parting.{there}
 use Rattle.mk_record_report.proofs.Summing.{counts_push, stepped_push, valued_push, last_here, last_before, summary_is}
 use Rattle.mk_record_report.proofs.summary.write_summary.Goals.{then-tally-gt0, else-tally-gt0}
 use Rattle.mk_record_report.proofs.summary.write_summary.Goals as goal
+use Rattle.mk_base.proofs.Items.{get_at_place}
 
 pub loop-place-preserved : goal.loop-place-preserved
 loop-place-preserved c =
@@ -23,7 +23,7 @@ loop-place-preserved c =
     let low : k < length sims = subst (λ (l : List PlanSim). k < length l) c.as_slice-sim-items.ensures c.loop-place-test.true in
     let is : s ≡ get_or sims k s = c.sim-item.is ∙ ap (λ (l : List PlanSim). get_or l k s) c.as_slice-sim-items.ensures in
     let inside : k < length ts = subst (λ n. k < n) (sym c.loop-place.invariant.tallies.all) low in
-    let tallied : IsTally t (sent J k) = c.loop-place.invariant.tallies.each k t (there ts k t inside c.index-tally.ensures) in
+    let tallied : IsTally t (sent J k) = c.loop-place.invariant.tallies.each k t (get_at_place ts k t inside c.index-tally.ensures) in
     record {
       same = c.loop-place.invariant.same;
       tallies = c.loop-place.invariant.tallies;

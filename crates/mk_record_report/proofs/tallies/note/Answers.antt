@@ -2,14 +2,14 @@
 use Rattle.std.proofs.Common.{◌∷◌, [], ◌++◌, ◌<◌, ◌≤◌, subst, sym, ap, length, slice_set}
 use Rattle.mk_plan.specs.declared.Entry.{Entry}
 use Rattle.mk_record_report.specs.inner.Summary.{AreTallies}
-use Rattle.mk_record_report.proofs.Parting.{there}
 use Rattle.mk_record_report.proofs.Tallying.{told_in, untold_by_message, untold_by_stranger}
 use Rattle.mk_record_report.proofs.tallies.note.Goals as goal
+use Rattle.mk_base.proofs.Items.{get_at_place}
 
 pub returns-then-place-as_slice-clause-each : goal.returns-then-place-as_slice-clause-each
 returns-then-place-as_slice-clause-each c count J are = subst (λ (e : Entry). AreTallies count (J ++ e ∷ []) (slice_set c.args.tallies.now.items c.in-Sent.sim.0 c.add_item.new.tally)) (sym c.in-Sent.is)
     (told_in count J c.in-Sent.sim c.in-Sent.item c.args.tallies.now.items c.index_mut.result.now c.add_item.new.tally
-    (there c.args.tallies.now.items c.in-Sent.sim.0 c.index_mut.result.now (subst (λ n. c.in-Sent.sim.0 < n) (ap length c.as_slice.ensures.value) c.if-place-as_slice.true) c.index_mut.ensures.value) c.add_item.ensures.steps c.add_item.ensures.values are)
+    (get_at_place c.args.tallies.now.items c.in-Sent.sim.0 c.index_mut.result.now (subst (λ n. c.in-Sent.sim.0 < n) (ap length c.as_slice.ensures.value) c.if-place-as_slice.true) c.index_mut.ensures.value) c.add_item.ensures.steps c.add_item.ensures.values are)
 
 pub returns-else-place-as_slice-clause-each : goal.returns-else-place-as_slice-clause-each
 returns-else-place-as_slice-clause-each c count J are = subst (λ (e : Entry). AreTallies count (J ++ e ∷ []) c.args.tallies.now.items) (sym c.in-Sent.is)

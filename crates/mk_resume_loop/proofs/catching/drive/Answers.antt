@@ -2,9 +2,9 @@
 use Rattle.std.proofs.Common.{◌∙◌, refl, sym, subst, arith, ◌++◌}
 use Rattle.mk_local.specs.Registries.{rows_in}
 use Rattle.mk_run.specs.inner.Turns.{AreLinksOpen}
-use Rattle.mk_run.proofs.Turning.{risen_on}
 use Rattle.mk_resume_loop.proofs.Turned.{none_gone, gone_on, gone_to_end}
 use Rattle.mk_resume_loop.proofs.catching.drive.Goals as goal
+use Rattle.mk_session.proofs.Polling.{risen_after}
 
 pub loop-init : goal.loop-init
 loop-init g c = record {
@@ -45,4 +45,4 @@ returns-in-Err-clause-ended g c =
     let so_far = c.loop.invariant in
     let now = c.in-Err.ensures in
     gone_to_end _ _ c.args.core.now c.loop.core c.turn.new.core c.args.crew.now c.loop.crew c.turn.new.crew c.args.behind.now c.loop.behind c.turn.new.behind _ _ _ now.turned.0 c.in-Err.end
-    (λ r. risen_on (g.F.Fleet.faults c.args.fleet.now) (g.F.Fleet.faults c.loop.fleet) (g.F.Fleet.faults c.turn.new.fleet) so_far.counted r) so_far.gone now.turned.1 now.turned.2
+    (λ r. risen_after (g.F.Fleet.faults c.args.fleet.now) (g.F.Fleet.faults c.loop.fleet) (g.F.Fleet.faults c.turn.new.fleet) so_far.counted r) so_far.gone now.turned.1 now.turned.2

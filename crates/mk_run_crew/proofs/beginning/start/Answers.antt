@@ -5,10 +5,10 @@ use Rattle.mk_base.specs.Lists.{Each, IsIn}
 use Rattle.mk_outside.specs.Counts.{HasRisen}
 use Rattle.mk_launch.specs.Starts.{links_in}
 use Rattle.mk_run_links.specs.Places.{without_all, AreDistinct}
-use Rattle.mk_run_crew.proofs.Placing.{risen_later}
 use Rattle.mk_run_crew.proofs.Started.{few_started}
 use Rattle.mk_run_crew.proofs.Starting.{leaves, others_stay, started_not}
 use Rattle.mk_run_crew.proofs.beginning.start.Goals as goal
+use Rattle.mk_run_links.proofs.OnStops.{risen_later}
 
 pub close_all-requires-clause-open : goal.close_all-requires-clause-open
 close_all-requires-clause-open g c =

@@ -14,8 +14,9 @@ use Rattle.mk_base.specs.Trees.{is_in_range}
 use Rattle.mk_base.proofs.Lists.{map_append}
 use Rattle.mk_scenario_toml.specs.Document.{tree_of}
 use Rattle.mk_scenario_toml.proofs.Levels.{range_bool, range_number, range_odd, range_text, range_items, range_members}
-use Rattle.mk_scenario_toml.proofs.Values.{items_of-items_view, members_of-members_view, member_of, sorted-member_of, all_last}
+use Rattle.mk_scenario_toml.proofs.Values.{items_of-items_view, members_of-members_view, member_of, sorted-member_of}
 use Rattle.mk_scenario_toml.proofs.read.+convert.Goals as goal
+use Rattle.mk_base.proofs.Items.{list_all_push}
 
 -- where nothing is left all is done
 all_done : {X : Type 0} (all done left : List X) → all ≡ done ++ left → left ≡ [] → all ≡ done
@@ -59,7 +60,7 @@ convert_members-loop-name-preserved t c =
       done ++ e ∷ [],
       l.invariant.1 ∙ ap (λ es. done ++ es) c.in-Some.ensures.steps ∙ sym (append_assoc done (e ∷ []) left),
       c.in_ok-push.ensures.ok ∙ ap₂ (λ ms m. ms ++ m ∷ []) l.invariant.2 (ap₂ (λ (k : List ℕ) (t : Json). (k, t)) named c.in_ok-convert.ensures.tree) ∙ sym (map_append member_of done (e ∷ [])),
-      ap (list_all (λ (m : List ℕ × Json). is_in_range m.1)) c.in_ok-push.ensures.ok ∙ all_last (λ (m : List ℕ × Json). is_in_range m.1) l.found _ l.invariant.3 c.in_ok-convert.ensures.in_range,
+      ap (list_all (λ (m : List ℕ × Json). is_in_range m.1)) c.in_ok-push.ensures.ok ∙ list_all_push (λ (m : List ℕ × Json). is_in_range m.1) l.found _ l.invariant.3 c.in_ok-convert.ensures.in_range,
     )
 
 pub convert_members-from_sorted-requires : goal.convert_members-from_sorted-requires

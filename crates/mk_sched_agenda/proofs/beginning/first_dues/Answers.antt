@@ -6,8 +6,8 @@ use Rattle.mk_sched_agenda.specs.declared.limits.Limits.{Limits}
 use Rattle.mk_sched_agenda.specs.inner.Dues.{first_queue, with_start}
 use Rattle.mk_sched_agenda.specs.inner.Begun.{AreBegun, AreNone}
 use Rattle.mk_sched_agenda.proofs.Begins.{begun_more, lasts_more}
-use Rattle.mk_sched_agenda.proofs.Rows.{get_is}
 use Rattle.mk_sched_agenda.proofs.beginning.first_dues.Goals as goal
+use Rattle.mk_base.proofs.Items.{get_at_place}
 
 pub loop-number-preserved : goal.loop-number-preserved
 loop-number-preserved c =
@@ -19,7 +19,7 @@ loop-number-preserved c =
     let sim = c.sim-item.result in
     let E = c.in_ok-begin.ensures in (
       c.as_slice-sim-items.ensures,
-      begun_more P k sim (get_is P.sims k sim low (c.sim-item.is ∙ ap (λ (l : List PlanSim). get_or l k sim) c.as_slice-sim-items.ensures)) low D.queues.items D.opened D.bounds I.1
+      begun_more P k sim (get_at_place P.sims k sim low (c.sim-item.is ∙ ap (λ (l : List PlanSim). get_or l k sim) c.as_slice-sim-items.ensures)) low D.queues.items D.opened D.bounds I.1
           c.begin.new.dues.queues.items c.begin.new.dues.opened c.begin.new.dues.bounds (E.queues ∙ ap (λ (L : Limits). D.queues.items ++ first_queue L sim ∷ []) c.requires.limits) E.opened
           (E.bounds ∙ ap (λ (L : Limits). with_start D.bounds k (least (first_queue L sim)) false) c.requires.limits) (c.begin.ensures.plan P I.1.plan),
       lasts_more D.lasts.items c.begin.new.dues.lasts.items k E.lasts I.2,

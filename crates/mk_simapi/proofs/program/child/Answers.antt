@@ -2,14 +2,15 @@
 use Rattle.std.proofs.Common.{inr, sym, ap, ◌∙◌, ℕ, List, option_map, map, string_bytes}
 use Rattle.mk_local.specs.Registries.{rows_in}
 use Rattle.mk_simapi.specs.Children.{asked}
-use Rattle.mk_simapi.proofs.Starting.{has_connected, has_served, is_open}
+use Rattle.mk_simapi.proofs.Starting.{has_connected, has_served}
 use Rattle.mk_simapi.proofs.program.child.Goals as goal
+use Rattle.mk_base.proofs.Items.{in_last}
 
 pub serve-end-requires-clause-open : goal.serve-end-requires-clause-open
-serve-end-requires-clause-open g c = is_open c.in-Link.link (g.F.Fleet.open_links c.args.fleet.now) _ c.in-Link.ensures.starts.3
+serve-end-requires-clause-open g c = in_last c.in-Link.link (g.F.Fleet.open_links c.args.fleet.now) _ c.in-Link.ensures.starts.3
 
 pub close-requires : goal.close-requires
-close-requires g c = record { «open» = is_open c.in-Link.link (g.F.Fleet.open_links c.args.fleet.now) _ (c.serve-end.ensures.same_links ∙ c.in-Link.ensures.starts.3) }
+close-requires g c = record { «open» = in_last c.in-Link.link (g.F.Fleet.open_links c.args.fleet.now) _ (c.serve-end.ensures.same_links ∙ c.in-Link.ensures.starts.3) }
 
 pub returns-in-Link-clause-ended : goal.returns-in-Link-clause-ended
 returns-in-Link-clause-ended g c = λ kind port e. has_served (rows_in c.args.kinds.now) kind c.in-Some.asked.kind.now c.in-Ok.kind port c.in-Some.asked.port (g.F.Fleet.started c.args.fleet.now) _ _ _ c.in-Link.link c.serve-end.result

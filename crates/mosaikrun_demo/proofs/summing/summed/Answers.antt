@@ -8,8 +8,9 @@ use Rattle.mk_outside.specs.Logs.{Adds}
 use Rattle.mk_outside.proofs.OnLogs.{adds_none}
 use Rattle.mosaikrun_run.specs.Outcomes.{outside}
 use Rattle.mosaikrun_demo.specs.Outcomes.{IsDemoOutcome}
-use Rattle.mosaikrun_demo.proofs.OfDemo.{all_within, if_err, if_ok, no_memory, of_demo}
+use Rattle.mosaikrun_demo.proofs.OfDemo.{all_within, if_err, no_memory, of_demo}
 use Rattle.mosaikrun_demo.proofs.summing.summed.Goals as goal
+use Rattle.mk_base.proofs.Items.{if_ok}
 
 pub returns-clause-text : goal.returns-clause-text
 returns-clause-text g c =

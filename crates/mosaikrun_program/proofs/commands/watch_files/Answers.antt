@@ -16,8 +16,8 @@ use Rattle.mosaikrun_words.specs.declared.request.PairCommand.{PairCommand}
 use Rattle.mosaikrun_program.specs.Commands.{HasBytes, IsOutcomeOf, read_by}
 use Rattle.mosaikrun_program.specs.inner.Making.{IsUnmade}
 use Rattle.mosaikrun_program.proofs.Making.{both_made, first_refused, first_unread, if_err, is_record, on_err, on_ok, second_unread, unreadable_later}
-use Rattle.mosaikrun_program.proofs.Playing.{risen_after}
 use Rattle.mosaikrun_program.proofs.commands.watch_files.Goals as goal
+use Rattle.mk_session.proofs.Polling.{risen_after}
 
 -- the first isn't read
 pub returns-in_err-record-clause-none : goal.returns-in_err-record-clause-none

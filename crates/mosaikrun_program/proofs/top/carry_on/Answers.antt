@@ -20,8 +20,9 @@ use Rattle.mosaikrun_program.specs.Program.{EndedAs}
 use Rattle.mosaikrun_program.proofs.CarryingOn.{first_refused, gone_on, low, second_stuck}
 use Rattle.mosaikrun_program.proofs.Fleetless.{does_nothing}
 use Rattle.mosaikrun_program.proofs.Making.{unreadable_later}
-use Rattle.mosaikrun_program.proofs.Playing.{answered_since, either, risen_after}
+use Rattle.mosaikrun_program.proofs.Playing.{answered_since, either}
 use Rattle.mosaikrun_program.proofs.top.carry_on.Goals as goal
+use Rattle.mk_session.proofs.Polling.{risen_after}
 
 -- the scenario's file isn't read
 pub returns-in_err-bytes-clause-carried : goal.returns-in_err-bytes-clause-carried

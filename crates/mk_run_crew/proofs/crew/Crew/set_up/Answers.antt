@@ -6,8 +6,8 @@ use Rattle.mk_plan.specs.declared.Plan.{Plan}
 use Rattle.mk_local.specs.Registries.{rows_in}
 use Rattle.mk_run_crew.specs.inner.Asking.{StepsTo}
 use Rattle.mk_run_crew.proofs.Looping.{can_ask, new_open, starts, steps_end, steps_not, steps_on}
-use Rattle.mk_run_crew.proofs.Placing.{risen_on}
 use Rattle.mk_run_crew.proofs.crew.Crew.set_up.Goals as goal
+use Rattle.mk_session.proofs.Polling.{risen_after}
 
 pub loop-init : goal.loop-init
 loop-init g c = record {
@@ -59,4 +59,4 @@ returns-in-Err-clause-err g c started new =
     let f1 = g.F.Fleet.faults c.loop.fleet in
     let f2 = g.F.Fleet.faults c.step.new.fleet in
     steps_not started c.args.setup.now.scenario c.args.setup.now.ranks (rows_in c.args.kinds.now) c.replies_make.ensures _ _ c.loop.self c.loop.setup (c.loop.invariant.so_far started new) c.requires.prepared _ made.0 (HasRisen f1 f2) (HasRisen f0 f2) c.in-Err.halt c.step.new.self made.1
-    (risen_on f0 f1 f2 c.loop.invariant.counted) made.2 all.same_places
+    (risen_after f0 f1 f2 c.loop.invariant.counted) made.2 all.same_places

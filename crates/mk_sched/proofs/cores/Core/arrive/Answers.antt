@@ -2,9 +2,9 @@
 use Rattle.std.proofs.Common.{IfOk, ap, subst, ◌∙◌}
 use Rattle.mk_plan.specs.declared.Message.{Message}
 use Rattle.mk_sched.specs.Answers.{ArriveOf}
-use Rattle.mk_sched.specs.Cores.{is_message_in_range}
 use Rattle.mk_sched.proofs.Standing.{stands_of}
 use Rattle.mk_sched.proofs.cores.Core.arrive.Goals as goal
+use Rattle.mk_plan.specs.Messages.{is_message_in_range}
 
 pub returns-in-Some-Faulty-clause-stands : goal.returns-in-Some-Faulty-clause-stands
 returns-in-Some-Faulty-clause-stands c = rw (← c.self.view_is) (stands_of _ _ _ _ c.self.invariant.0)

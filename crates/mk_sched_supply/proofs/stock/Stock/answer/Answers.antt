@@ -1,14 +1,15 @@
 -- Answers to the goals of `stock::Stock::answer` that the prover leaves.
 use Rattle.mk_sched_supply.proofs.Lending.{reached}
-use Rattle.mk_sched_supply.proofs.Replying.{answered_item, stock_asked, stock_refused, with_both, with_ok}
+use Rattle.mk_sched_supply.proofs.Replying.{answered_item, stock_asked, stock_refused, with_both}
 use Rattle.mk_plan.specs.Inputs.{value_at}
 use Rattle.mk_sched_supply.proofs.stock.Stock.answer.Goals as goal
+use Rattle.mk_base.proofs.Items.{if_ok}
 
 pub answer_judged-requires-clause-reached : goal.answer_judged-requires-clause-reached
 answer_judged-requires-clause-reached c = reached c.args.plan.now c.args.sim.0 c.requires.valid.well_formed.references c.args.at c.args.self.now c.in-Ok.asked c.requires.asked c.in-Ok.ensures.permitted
 
 pub returns-in-Ok-clause-item : goal.returns-in-Ok-clause-item
-returns-in-Ok-clause-item c = λ V T stock. with_ok c.answer_judged.result (λ item by. answered_item c.args.plan.now V c.args.sim.0 c.args.at T.place c.args.id c.args.name.now c.args.args.now c.args.named.now
+returns-in-Ok-clause-item c = λ V T stock. if_ok c.answer_judged.result (λ item by. answered_item c.args.plan.now V c.args.sim.0 c.args.at T.place c.args.id c.args.name.now c.args.args.now c.args.named.now
     c.in-Ok.asked stock.supplied.0 item stock.supplied.2 (c.in-Ok.ensures.refusal (value_at stock.supplied.0 c.args.at)) c.in-Ok.ensures.request by) (c.answer_judged.ensures.item stock.supplied.0 stock.supplied.1)
 
 pub returns-in-Ok-clause-stock : goal.returns-in-Ok-clause-stock

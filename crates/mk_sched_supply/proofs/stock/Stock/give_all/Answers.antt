@@ -8,8 +8,9 @@ use Rattle.mk_async.specs.Asked.{IsGivenBy}
 use Rattle.mk_buffers.specs.Held.{with_gift}
 use Rattle.mk_buffers.specs.Standing.{StandFor}
 use Rattle.mk_sched_supply.specs.inner.Gifts.{HasGivenAll, gifts_in}
-use Rattle.mk_sched_supply.proofs.Replying.{given_more, none_left}
+use Rattle.mk_sched_supply.proofs.Replying.{given_more}
 use Rattle.mk_sched_supply.proofs.stock.Stock.give_all.Goals as goal
+use Rattle.mk_base.proofs.Items.{none_left}
 
 pub loop-set-init : goal.loop-set-init
 loop-set-init c = record {
