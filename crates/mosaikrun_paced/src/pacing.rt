@@ -1,29 +1,22 @@
 //! From the bytes of a scenario's file to the text and the record of its paced run.
-ghost use Rattle.std.specs.Prelude.{◌≡◌, ◌≤◌, ◌⊎◌, List, IfOk, IfErr, IfSome, IsSome, Ok, Err, None, map, option_map, true};
-ghost use Rattle.std.specs.List.{list_all};
+ghost use Rattle.std.specs.Prelude.{◌≡◌, ◌≤◌, List, IfOk, IfErr, IfSome, IsSome, Ok, Err, map, option_map};
 ghost use Rattle.mk_outside.specs.declared.fleet.LogEntry.{LogEntry};
 ghost use Rattle.mk_outside.specs.Logs.{Adds};
 ghost use Rattle.mk_launch.specs.Starts.{AreNumbered};
 ghost use Rattle.mk_local.specs.Kinds.{name_of};
 ghost use Rattle.mk_local.specs.Registries.{rows_in};
 ghost use Rattle.mk_pace_laws.specs.Clocks.{IsRising};
-ghost use Rattle.mk_record.specs.Writable.{is_writable};
 ghost use Rattle.mk_scenario.specs.Wellformed.{IsWellformed};
 ghost use Rattle.mosaikrun_check.specs.Runnable.{IsRunnable};
-ghost use Rattle.mosaikrun_endings.specs.declared.ending.Ending.TheVariants as endings;
-ghost use Rattle.mosaikrun_run.specs.Outcomes.{HoldsOver, IsReadAgain, IsSaid};
-ghost use Rattle.mosaikrun_run.specs.Sayings.{record_of};
+ghost use Rattle.mosaikrun_run.specs.Outcomes.{HoldsOver};
 ghost use Rattle.mosaikrun_sayings.specs.Sayings.{ids_of};
 ghost use Rattle.mosaikrun_paced.specs.Outcomes.{IsPacedOutcome, IsPacedScenario};
-ghost use Rattle.mosaikrun_paced.specs.Sayings.{pace_saying};
 ghost use Rattle.mk_base.specs.Limits.{most_milliseconds};
 
 use crate::sayings::{saying_at, unpaced};
-use mk_base::{List, Text};
 use mk_local::Registry;
 use mk_outside::Paced;
-use mk_pace::{PaceEnd, PaceRan, paced};
-use mk_plan::{Journal, Plan};
+use mk_pace::{PaceRan, paced};
 use mk_scenario::Scenario;
 use mosaikrun_check::scenario_of;
 use mosaikrun_run::{Accepted, Told, accept};
@@ -158,32 +151,11 @@ fn pace<F: Paced, R: Wait>(
         moments: _,
     } = paced(rt, alloc, scenario, ranks, fleet, kinds, factor, strict);
     match (plan, journal) {
-        (Some(plan), Some(journal)) => tell(alloc, &ids, end, &plan, &journal, is_recorded),
+        (Some(plan), Some(journal)) => {
+            let text = saying_at(alloc, &ids, end, &plan, &journal);
+            Told::recorded(alloc, text, &plan, &journal, is_recorded)
+        }
         (None, None) => Told::unrecorded(unpaced(alloc, &ids, end)),
         (Some(_), None) | (None, Some(_)) => unreachable!(),
     }
-}
-
-// What is said of a run with a plan and a journal, and its record.
-fn tell(
-    alloc: Global,
-    ids: &List<Text>,
-    end: PaceEnd,
-    plan: &Plan,
-    journal: &Journal,
-    is_recorded: bool,
-) -> Told
-    requires { list_all is_writable journal.now.entries ≡ true }
-    ensures text { IfOk result.text
-        (λ text. IsSaid (pace_saying ids.now plan.now journal.now.entries end) (Ok text.items)) }
-    ensures none { IfErr result.text
-        (λ e. IsSaid (pace_saying ids.now plan.now journal.now.entries end) (Err e)) }
-    ensures recorded { (option_map (λ r. r.items) result.record_text
-        ≡ record_of is_recorded plan.now journal.now.entries)
-        ⊎ ((result.record_text ≡ None) × (result.text ≡ Err endings.Mem)) }
-    ensures again { IfSome result.record_text
-        (λ r. IsReadAgain plan.now journal.now.entries r.items) }
-{
-    let text = saying_at(alloc, ids, end, plan, journal);
-    Told::recorded(alloc, text, plan, journal, is_recorded)
 }

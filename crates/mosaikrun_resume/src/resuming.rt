@@ -174,53 +174,13 @@ fn tell(
         (λ r. IsReadAgain plan.now journal.now.entries r.items) }
     ensures unrecorded { taken ≡ false → result.record_text ≡ None }
 {
-    if taken {
-        tell_recorded(alloc, ids, end, plan, journal, is_recorded)
-    } else {
-        tell_refused(alloc, ids, end, plan, journal)
-    }
-}
-
-// What is said of a run that took the record, and the new record.
-fn tell_recorded(
-    alloc: Global,
-    ids: &List<Text>,
-    end: ResumeEnd,
-    plan: &Plan,
-    journal: &Journal,
-    is_recorded: bool,
-) -> Told
-    requires { list_all is_writable journal.now.entries ≡ true }
-    ensures text { IfOk result.text
-        (λ text. IsSaid (resume_saying ids.now plan.now journal.now.entries end) (Ok text.items)) }
-    ensures none { IfErr result.text
-        (λ e. IsSaid (resume_saying ids.now plan.now journal.now.entries end) (Err e)) }
-    ensures recorded { (option_map (λ r. r.items) result.record_text
-        ≡ record_of is_recorded plan.now journal.now.entries)
-        ⊎ ((result.record_text ≡ None) × (result.text ≡ Err ends.Mem)) }
-    ensures again { IfSome result.record_text
-        (λ r. IsReadAgain plan.now journal.now.entries r.items) }
-{
     let text = saying_at(alloc, ids, end, plan, journal);
-    Told::recorded(alloc, text, plan, journal, is_recorded)
-}
-
-// What is said of a run whose record's messages met a fault. Nothing is recorded.
-fn tell_refused(
-    alloc: Global,
-    ids: &List<Text>,
-    end: ResumeEnd,
-    plan: &Plan,
-    journal: &Journal,
-) -> Told
-    ensures text { IfOk result.text
-        (λ text. IsSaid (resume_saying ids.now plan.now journal.now.entries end) (Ok text.items)) }
-    ensures none { IfErr result.text
-        (λ e. IsSaid (resume_saying ids.now plan.now journal.now.entries end) (Err e)) }
-    ensures unrecorded { result.record_text ≡ None }
-{
-    Told {
-        text: saying_at(alloc, ids, end, plan, journal),
-        record_text: None,
+    if taken {
+        Told::recorded(alloc, text, plan, journal, is_recorded)
+    } else {
+        Told {
+            text,
+            record_text: None,
+        }
     }
 }

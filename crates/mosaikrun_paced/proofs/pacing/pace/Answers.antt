@@ -4,12 +4,13 @@ use Rattle.std.specs.Prelude.{option_map}
 use Rattle.mk_local.specs.Registries.{rows_in}
 use Rattle.mosaikrun_run.specs.Sayings.{record_of}
 use Rattle.mosaikrun_run.specs.Outcomes.{IsReadAgain, outside}
-use Rattle.mosaikrun_run.proofs.Telling.{if_err, if_mapped, if_ok, made_with_ending, made_with_text}
+use Rattle.mosaikrun_run.proofs.Telling.{if_err, if_mapped, if_ok, made_with_ending, made_with_text, said_ending, said_text}
+use Rattle.mosaikrun_paced.specs.Sayings.{pace_saying}
 use Rattle.mosaikrun_paced.proofs.Telling.{is_halt, may_be_written, paced, unpaced}
 use Rattle.mosaikrun_paced.proofs.pacing.pace.Goals as goal
 
-pub tell-requires : goal.tell-requires
-tell-requires g c =
+pub recorded-requires : goal.recorded-requires
+recorded-requires g c =
     let r = c.paced-end.ensures.ran in
     let O = outside g.F.Fleet.started g.F.Fleet.faults (rows_in c.args.kinds.now) c.args.fleet.now c.paced-end.new.fleet r.0 in
     let h = c.paced-end.result in
@@ -29,15 +30,15 @@ returns-in-Some-Some-clause-text g c =
     let h = c.paced-end.result in
     let P = c.in-Some-Some.plan in
     let J = c.in-Some-Some.journal in
-    if_ok c.tell.result.text
+    if_ok c.recorded.result.text
     (λ text is said. (
       r.0,
       r.1,
-      paced O c.args.scenario c.args.accepted.ranks c.args.factor c.args.strict h.moments h.end c.args.is_recorded c.requires.runnable c.args.accepted.ids c.requires.ids (Ok text.items) (option_map (λ v. v.items) c.tell.result.record_text) h.plan h.journal P J c.in-Some-Some.is-0 c.in-Some-Some.is-1 r.3 said
-          (made_with_text (λ v. v.items) (record_of c.args.is_recorded P J.entries) c.tell.result.record_text c.tell.result.text text is c.tell.ensures.recorded (Ok text.items))
-          (if_mapped (λ v. v.items) (IsReadAgain P J.entries) c.tell.result.record_text c.tell.ensures.again),
+      paced O c.args.scenario c.args.accepted.ranks c.args.factor c.args.strict h.moments h.end c.args.is_recorded c.requires.runnable c.args.accepted.ids c.requires.ids (Ok text.items) (option_map (λ v. v.items) c.recorded.result.record_text) h.plan h.journal P J c.in-Some-Some.is-0 c.in-Some-Some.is-1 r.3 said
+          (made_with_text (λ v. v.items) (record_of c.args.is_recorded P J.entries) c.recorded.result.record_text c.recorded.result.text text is c.recorded.ensures.recorded (Ok text.items))
+          (if_mapped (λ v. v.items) (IsReadAgain P J.entries) c.recorded.result.record_text c.recorded.ensures.again),
     ))
-    c.tell.ensures.text
+    (said_text (λ v. v.items) (pace_saying c.args.accepted.ids P J.entries h.end) c.saying_at-text.result c.recorded.result.text c.recorded.ensures.text c.saying_at-text.ensures.text)
 
 pub returns-in-Some-Some-clause-none : goal.returns-in-Some-Some-clause-none
 returns-in-Some-Some-clause-none g c =
@@ -46,15 +47,15 @@ returns-in-Some-Some-clause-none g c =
     let h = c.paced-end.result in
     let P = c.in-Some-Some.plan in
     let J = c.in-Some-Some.journal in
-    if_err c.tell.result.text
+    if_err c.recorded.result.text
     (λ e is said. (
       r.0,
       r.1,
-      paced O c.args.scenario c.args.accepted.ranks c.args.factor c.args.strict h.moments h.end c.args.is_recorded c.requires.runnable c.args.accepted.ids c.requires.ids (Err e) (option_map (λ v. v.items) c.tell.result.record_text) h.plan h.journal P J c.in-Some-Some.is-0 c.in-Some-Some.is-1 r.3 said
-          (made_with_ending (λ v. v.items) (record_of c.args.is_recorded P J.entries) c.tell.result.record_text c.tell.result.text e is c.tell.ensures.recorded (Err e) refl)
-          (if_mapped (λ v. v.items) (IsReadAgain P J.entries) c.tell.result.record_text c.tell.ensures.again),
+      paced O c.args.scenario c.args.accepted.ranks c.args.factor c.args.strict h.moments h.end c.args.is_recorded c.requires.runnable c.args.accepted.ids c.requires.ids (Err e) (option_map (λ v. v.items) c.recorded.result.record_text) h.plan h.journal P J c.in-Some-Some.is-0 c.in-Some-Some.is-1 r.3 said
+          (made_with_ending (λ v. v.items) (record_of c.args.is_recorded P J.entries) c.recorded.result.record_text c.recorded.result.text e is c.recorded.ensures.recorded (Err e) refl)
+          (if_mapped (λ v. v.items) (IsReadAgain P J.entries) c.recorded.result.record_text c.recorded.ensures.again),
     ))
-    c.tell.ensures.none
+    (said_ending (pace_saying c.args.accepted.ids P J.entries h.end) c.saying_at-text.result c.recorded.result.text c.recorded.ensures.text c.saying_at-text.ensures.none)
 
 pub returns-in-None-None-clause-none : goal.returns-in-None-None-clause-none
 returns-in-None-None-clause-none g c =
