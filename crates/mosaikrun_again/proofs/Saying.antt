@@ -20,15 +20,17 @@ use Rattle.mk_run.specs.Ends as runs
 use Rattle.mk_run.specs.Ends.{IsRun}
 use Rattle.mk_record_read.specs.Texts.{record_text}
 use Rattle.mk_record_laws.specs.Again.{steps_of}
+use Rattle.mk_record_replay.specs.declared.replaying.ReplayEnd.{ReplayEnd}
 use Rattle.mk_record_replay.specs.declared.replaying.ReplayEnd.TheVariants as ends
-use Rattle.mk_record_replay.specs.Replays.{EndsBy, IsReplay, messages_from}
-use Rattle.mk_record_replay.specs.Orders.{IsReplayBy}
+use Rattle.mk_record_replay.specs.Replays.{EndsBy, IsReplay, end_with, messages_from}
 use Rattle.mk_record_replay.proofs.Pushing.{got_is}
 use Rattle.mk_record_report.proofs.Bare.{report_bare}
 use Rattle.mosaikrun_endings.specs.declared.ending.Ending.{Ending}
 use Rattle.mosaikrun_endings.specs.declared.ending.Ending.TheVariants as endings
 use Rattle.mosaikrun_endings.specs.declared.ending.Ending.TheVariants.{Mem}
 use Rattle.mosaikrun_records.specs.Reports.{IsOutcome, IsReportOf}
+use Rattle.mosaikrun_records.specs.Saved.{IsSaidOf}
+use Rattle.mosaikrun_sayings.specs.Stops.{stop_of}
 use Rattle.mosaikrun_records.proofs.OneOutcome.{one_outcome}
 use Rattle.mosaikrun_run.specs.declared.sayings.Form.TheVariants.{Report}
 use Rattle.mosaikrun_run.specs.Sayings.{saying_of}
@@ -59,77 +61,27 @@ module _ (P : Plan) (J : List Entry) (valid : IsValidPlan P) (eager : IsEager P 
           reported = report_bare P (sent J) (run_items P (messages_from (arrivals J))) all.sent;
         }
 
-    -- it ends by the fault of its last message
-    own_end : (f : CoreFault) → IsLastFaulty P J f → IsReplayBy P (arrivals J) (Some (steps_of J)) None J (ends.Core f)
-    own_end f last = (own_replay, record { messages_end = ends.Core f; other = None; ends = inl last; compared = own_other J; is = refl })
+    -- what is said of an end is an outcome of the record
+    own_stop : (end : ReplayEnd) (e : Ending) → EndsBy P (arrivals J) J end → end ≡ end_with end None → IsSaidOf P J end e → IsOutcome (record_text P J) None (Err e)
+    own_stop end e by alone said = inr (record {
+      plan = P;
+      arrivals = arrivals J;
+      journal = J;
+      end = end;
+      steps = Some (steps_of J);
+      read = read;
+      valid = valid;
+      replayed = (own_replay, record { messages_end = end; other = None; ends = by; compared = own_other J; is = alone });
+      said = said;
+    })
 
-    -- and what is said of this fault is that of the record
-    own_ending : (ids : List (List ℕ)) (f : CoreFault) → IsSome (fault_in f) → IsLastFaulty P J f → IsOutcome (record_text P J) None (saying_of Report ids P J (outcome.Core f))
-    own_ending ids (core.Wrong s place cause) named last = record {
-      plan = P;
-      arrivals = arrivals J;
-      journal = J;
-      end = ends.Core (core.Wrong s place cause);
-      steps = Some (steps_of J);
-      read = read;
-      valid = valid;
-      replayed = own_end (core.Wrong s place cause) last;
-      said = refl;
-    }
-    own_ending ids (core.Failed s place) named last = record {
-      plan = P;
-      arrivals = arrivals J;
-      journal = J;
-      end = ends.Core (core.Failed s place);
-      steps = Some (steps_of J);
-      read = read;
-      valid = valid;
-      replayed = own_end (core.Failed s place) last;
-      said = refl;
-    }
-    own_ending ids (core.LoopLimit s time) named last = record {
-      plan = P;
-      arrivals = arrivals J;
-      journal = J;
-      end = ends.Core (core.LoopLimit s time);
-      steps = Some (steps_of J);
-      read = read;
-      valid = valid;
-      replayed = own_end (core.LoopLimit s time) last;
-      said = refl;
-    }
-    own_ending ids (core.TooLong n) named last = absurd (cc)
-
-    -- it ends by the limit of entries
-    own_limit : (ids : List (List ℕ)) (f : CoreFault) → fault_in f ≡ None → EndsBy P (arrivals J) J (ends.Core f) → IsOutcome (record_text P J) None (saying_of Report ids P J (outcome.Core f))
-    own_limit ids (core.TooLong n) none limit = record {
-      plan = P;
-      arrivals = arrivals J;
-      journal = J;
-      end = ends.Core (core.TooLong n);
-      steps = Some (steps_of J);
-      read = read;
-      valid = valid;
-      replayed = (own_replay, record { messages_end = ends.Core (core.TooLong n); other = None; ends = limit; compared = own_other J; is = refl });
-      said = refl;
-    }
-    own_limit ids (core.Wrong s place cause) none limit = absurd (cc)
-    own_limit ids (core.Failed s place) none limit = absurd (cc)
-    own_limit ids (core.LoopLimit s time) none limit = absurd (cc)
+    -- it ends by the fault of its last message, or by the limit of entries
+    own_fault : (ids : List (List ℕ)) (f : CoreFault) → EndsBy P (arrivals J) J (ends.Core f) → IsOutcome (record_text P J) None (saying_of Report ids P J (outcome.Core f))
+    own_fault ids f by = own_stop (ends.Core f) (stop_of P J f) by refl refl
 
     -- or messages are missing
     own_short : (n : ℕ) → EndsBy P (arrivals J) J (ends.Short n) → IsOutcome (record_text P J) None (Err (endings.Short n))
-    own_short n short = record {
-      plan = P;
-      arrivals = arrivals J;
-      journal = J;
-      end = ends.Short n;
-      steps = Some (steps_of J);
-      read = read;
-      valid = valid;
-      replayed = (own_replay, record { messages_end = ends.Short n; other = None; ends = short; compared = own_other J; is = refl });
-      said = refl;
-    }
+    own_short n short = own_stop (ends.Short n) (endings.Short n) short refl refl
 
 -- what is said of a named fault isn't that memory is wanting
 not_mem : (ids : List (List ℕ)) (P : Plan) (J : List Entry) (f : CoreFault) → saying_of Report ids P J (outcome.Core f) ≡ Err Mem → ⊥
@@ -143,7 +95,7 @@ said_again : (X : Exchange) (P : Plan) (J : List Entry) (faults new_faults : ℕ
 said_again X P J faults new_faults outcome.Done run read said ids o is not =
     one_outcome (record_text P J) None o (saying_of Report ids P J outcome.Done) is (own_report P J run.valid run.eager run.within read run.shown) not (λ e. cc)
 said_again X P J faults new_faults (outcome.Core f) run read said ids o is not =
-    one_outcome (record_text P J) None o (saying_of Report ids P J (outcome.Core f)) is (own_ending P J run.valid run.eager run.within read ids f said (by_last run.shown)) not (not_mem ids P J f)
+    one_outcome (record_text P J) None o (saying_of Report ids P J (outcome.Core f)) is (own_fault P J run.valid run.eager run.within read ids f (inl (by_last run.shown))) not (not_mem ids P J f)
   where
     by_last : (IsLastFaulty P J f ⊎ runs.IsFull P J f (runs.IsMessageLeft X.started X.scenario P J X.log)) → IsLastFaulty P J f
     by_last (inl last) = record { before = last.before; sim = last.sim; message = last.message; is = last.is; right_before = last.right_before; named = last.named; fault = last.fault }
@@ -161,7 +113,7 @@ limit_again : (X : Exchange) (P : Plan) (J : List Entry) (faults new_faults : �
 limit_again X P J faults new_faults f run read none ids o is not = by_shown run.shown
   where
     by_end : EndsBy P (arrivals J) J (ends.Core f) ⊎ ((n : ℕ) × EndsBy P (arrivals J) J (ends.Short n)) → IsLimitAgain (saying_of Report ids P J (outcome.Core f)) o
-    by_end (inl limit) = inl (one_outcome (record_text P J) None o (saying_of Report ids P J (outcome.Core f)) is (own_limit P J run.valid run.eager run.within read ids f none limit) not (not_mem ids P J f))
+    by_end (inl limit) = inl (one_outcome (record_text P J) None o (saying_of Report ids P J (outcome.Core f)) is (own_fault P J run.valid run.eager run.within read ids f limit) not (not_mem ids P J f))
     by_end (inr (n, short)) = inr (n, one_outcome (record_text P J) None o (Err (endings.Short n)) is (own_short P J run.valid run.eager run.within read n short) not (λ e. cc))
 
     by_shown : (IsLastFaulty P J f ⊎ runs.IsFull P J f (runs.IsMessageLeft X.started X.scenario P J X.log)) → IsLimitAgain (saying_of Report ids P J (outcome.Core f)) o

@@ -8,8 +8,7 @@ use Rattle.mk_record.specs.Asked.{Asked}
 use Rattle.mk_record.specs.Reading.{reading, Said}
 use Rattle.mk_record.specs.Steps.{IsKnown}
 use Rattle.mosaikrun_endings.specs.declared.ending.Ending.{Ending}
-use Rattle.mosaikrun_records.specs.Reports.{IsDoneBy}
-use Rattle.mosaikrun_records.specs.Saved.{IsRecord, IsNotDone, ReplaysTo}
+use Rattle.mosaikrun_records.specs.Saved.{IsDoneBy, IsRecord, IsNotDone, ReplaysTo}
 use Rattle.mosaikrun_blame.specs.Blames.{IsBlameText, IsUnblamed}
 use Rattle.mosaikrun_blame.specs.inner.Pairs.{IsComparison, IsWholeOf}
 

@@ -10,8 +10,8 @@ use Rattle.mk_blame.proofs.Judging.{one_verdict}
 use Rattle.mosaikrun_endings.specs.declared.ending.Ending.{Ending}
 use Rattle.mosaikrun_endings.specs.declared.ending.Ending.TheVariants.{Record, OtherPlan, Mem}
 use Rattle.mosaikrun_records.specs.Saved.{IsRecord, ReplaysTo}
-use Rattle.mosaikrun_records.proofs.OneOutcome.{one_stop}
-use Rattle.mosaikrun_records.proofs.OneReplay.{faulty_once, record_or_faulty, record_replays, record_stops, replays_once, replays_or_stops}
+use Rattle.mosaikrun_records.proofs.OneOutcome.{one_stop, record_stops}
+use Rattle.mosaikrun_records.proofs.OneReplay.{faulty_once, record_or_faulty, record_replays, replays_once, replays_or_stops}
 use Rattle.mosaikrun_blame.specs.Blames.{BothReplay, IsBlameOutcome, IsBlameText, IsFirstStopped, IsSecondStopped, IsUnblamed}
 use Rattle.mosaikrun_blame.proofs.Parts.{one_part, same_or_other}
 

@@ -8,8 +8,7 @@ use Rattle.mk_blame.specs.Verdicts.{IsVerdict}
 use Rattle.mk_blame.specs.Written.{verdict_text}
 use Rattle.mosaikrun_endings.specs.declared.ending.Ending.{Ending}
 use Rattle.mosaikrun_endings.specs.declared.ending.Ending.TheVariants as ends
-use Rattle.mosaikrun_records.specs.Reports.{EndsEarly}
-use Rattle.mosaikrun_records.specs.Saved.{IsRecord, IsUnread, ReplaysTo}
+use Rattle.mosaikrun_records.specs.Saved.{EndsEarly, IsRecord, IsUnread, ReplaysTo}
 
 -- both are records of valid plans, and each replay, the messages as they came, comes to a journal
 -- in which all is done

@@ -27,8 +27,7 @@ use Rattle.mosaikrun_run.specs.Sayings.{halt_ending, saying_of}
 use Rattle.mosaikrun_run.specs.Outcomes.{Outside, IsRunOutcome, IsSaid, IsScenarioOutcome}
 use Rattle.mk_record.specs.ReplayEnd.{ReplayEnd}
 use Rattle.mk_record.specs.ReplayEnd.TheVariants as replay_end
-use Rattle.mosaikrun_records.specs.Reports.{IsSaidOf, EndsEarly}
-use Rattle.mosaikrun_records.specs.Saved.{IsUnread}
+use Rattle.mosaikrun_records.specs.Saved.{EndsEarly, IsSaidOf, IsUnread}
 use Rattle.mk_resume_loop.specs.declared.ending.ResumeEnd.{ResumeEnd}
 use Rattle.mk_resume_loop.specs.declared.ending.ResumeEnd.TheVariants as resume_end
 use Rattle.mosaikrun_resume.specs.Outcomes.{IsResumeOutcome, IsSavedOutcome, IsStudyOutcome}

@@ -14,6 +14,8 @@ use Rattle.mosaikrun_words.specs.declared.request.Request.TheVariants.{Files as 
 use Rattle.mosaikrun_endings.specs.declared.ending.Ending.{Ending}
 use Rattle.mosaikrun_endings.specs.declared.ending.Ending.TheVariants.{Usage, Mem}
 use Rattle.mosaikrun_endings.specs.Endings.{outcome_status}
+use Rattle.mosaikrun_records.specs.Migrations.{IsMigration}
+use Rattle.mosaikrun_records.specs.Reports.{IsOutcome}
 use Rattle.mosaikrun_records.specs.Saved.{IsRecord}
 use Rattle.mosaikrun_records.proofs.OneOutcome.{one_outcome}
 use Rattle.mosaikrun_records.proofs.OneMigration.{one_migration}
@@ -169,9 +171,17 @@ two_row makes law never first second = record {
 
 -- a row for each command
 pub row_of : (kinds : List Turn) (rules : RulesSeen) (c : FileCommand) → IsRow (read_by c) (IsOutcomeOf kinds rules c)
-row_of kinds rules (Replay name order) = one_row _ (λ bytes o p a b m n. ap outcome_status (one_outcome bytes order o p a b m n)) (λ bytes u. u) name
+row_of kinds rules (Replay name order) = one_row _ (λ bytes o p a b m n. ap outcome_status (one_outcome bytes order o p a b m n)) never name
+  where
+    never : (bytes : List ℕ) → IsOutcome bytes order (Err Usage) → ⊥
+    never bytes (inl unread) = unread_not_usage bytes unread
+    never bytes (inr stopped) = stopped_not_usage bytes order stopped
 row_of kinds rules (Check scenario) = one_row _ (λ bytes o p a b m n. one_status (map name_of kinds) bytes o p a b m n) (λ bytes u. unchecked_not_usage (map name_of kinds) bytes Usage u refl) scenario
-row_of kinds rules (Pair Migrate old new) = one_row _ (λ bytes o p a b m n. ap outcome_status (one_migration bytes o p a b m n)) (λ bytes u. u) old
+row_of kinds rules (Pair Migrate old new) = one_row _ (λ bytes o p a b m n. ap outcome_status (one_migration bytes o p a b m n)) never old
+  where
+    never : (bytes : List ℕ) → IsMigration bytes (Err Usage) → ⊥
+    never bytes (inl unread) = unread_not_usage bytes unread
+    never bytes (inr none) = stopped_not_usage bytes None none.stopped
 row_of kinds rules (Pair Watch name spec) = two_row _ (λ first second o p a b m n. ap outcome_status (one_watch rules.names rules.folds first second o p a b m n)) never name spec
   where
     never : (bytes spec : List ℕ) → IsWatchOutcome rules.names rules.folds bytes spec (Err Usage) → ⊥

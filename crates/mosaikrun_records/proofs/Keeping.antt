@@ -22,17 +22,15 @@ use Rattle.mk_record.specs.Again.{steps_of}
 use Rattle.mk_record_laws.proofs.Whole.{read_again}
 use Rattle.mk_record_laws.proofs.Recorded.{recordable}
 use Rattle.mk_sched.specs.declared.faults.CoreFault.{CoreFault}
-use Rattle.mk_sched.specs.declared.faults.CoreFault.TheVariants as core
 use Rattle.mk_record.specs.Replays.{EndsBy, SomeUngiven, end_with}
 use Rattle.mk_record.specs.Orders.{IsReplayBy}
 use Rattle.mk_record.specs.ReplayEnd.{ReplayEnd}
 use Rattle.mk_record.specs.ReplayEnd.TheVariants.{Done, Core, Short, Other}
-use Rattle.mosaikrun_records.specs.Reports.{IsSaidOf}
-use Rattle.mosaikrun_records.specs.Saved.{IsUnread}
+use Rattle.mosaikrun_records.specs.Saved.{IsSaidOf, IsUnread}
 use Rattle.mosaikrun_sayings.specs.Stops.{stop_of}
 use Rattle.mosaikrun_endings.specs.declared.ending.Ending.{Ending}
 use Rattle.mosaikrun_endings.specs.declared.ending.Ending.TheVariants.{Differs}
-use Rattle.mosaikrun_records.specs.Migrations.{HasAllMessages, IsLost, IsRecordOf, IsNoRecordOf, Unmigrated}
+use Rattle.mosaikrun_records.specs.Migrations.{HasAllMessages, IsLost, IsRecordOf, Unmigrated}
 use Rattle.mosaikrun_records.specs.inner.Migrations.{is_message}
 
 -- ---- the messages of a journal
@@ -133,25 +131,17 @@ module _ (P : Plan) (A : List Arrival) (steps : Option (List Asked)) (J : List E
         let given : arrivals J ≡ A = all_given J A replayed.0.given all in
         record_made text given (subst (HasAllMessages A J) (sym is) given) written
 
-    no_record : (e : Ending) → IsLost A J end → IsSaidOf P J end e → IsNoRecordOf bytes e
-    no_record e lost said = record { plan = P; arrivals = A; journal = J; end = end; steps = steps; read = read; valid = valid; replayed = replayed; lost = lost; said = said }
+    no_record : (e : Ending) → IsLost A J end → IsSaidOf P J end e → Unmigrated bytes e
+    no_record e lost said = inr (record { stopped = record { plan = P; arrivals = A; journal = J; end = end; steps = steps; read = read; valid = valid; replayed = replayed; said = said }; lost = lost })
 
     pub differs : (n : ℕ) → end ≡ Other n → Unmigrated bytes (Differs n)
     differs n is = no_record (Differs n) (subst (IsLost A J) (sym is) tt) (subst (λ (x : ReplayEnd). IsSaidOf P J x (Differs n)) (sym is) refl)
 
-    as_stopped : (f : CoreFault) → IsNoRecordOf bytes (stop_of P J f) → Unmigrated bytes (stop_of P J f)
-    as_stopped (core.Wrong s place cause) h = h
-    as_stopped (core.Failed s place) h = h
-    as_stopped (core.LoopLimit s time) h = h
-    as_stopped (core.TooLong count) h = h
-
     pub stopped_early : (e : Ending) (f : CoreFault) → end ≡ Core f → (length (arrivals J) ≡ length A → ⊥) → e ≡ stop_of Q J f → Unmigrated bytes e
     stopped_early e f is apart said =
-        let named : e ≡ stop_of P J f = said ∙ ap (λ (X : Plan). stop_of X J f) same in
-        subst (Unmigrated bytes) (sym named)
-        (as_stopped f (no_record (stop_of P J f) (subst (IsLost A J) (sym is) (some_left J A replayed.0.given apart)) (subst (λ (x : ReplayEnd). IsSaidOf P J x (stop_of P J f)) (sym is) refl)))
+        no_record e (subst (IsLost A J) (sym is) (some_left J A replayed.0.given apart))
+        (subst (λ (x : ReplayEnd). IsSaidOf P J x e) (sym is) (said ∙ ap (λ (X : Plan). stop_of X J f) same))
 
 -- what is no record has no migration
 pub unread_unmigrated : (bytes : List ℕ) (e : Ending) → IsUnread bytes e → Unmigrated bytes e
-unread_unmigrated bytes e (inl wanting) = subst (Unmigrated bytes) (sym wanting) tt
-unread_unmigrated bytes e (inr fault) = subst (Unmigrated bytes) (sym fault.2) fault.3
+unread_unmigrated bytes e unread = inl unread

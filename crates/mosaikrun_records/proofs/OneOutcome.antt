@@ -5,7 +5,7 @@ use Rattle.mk_plan.specs.declared.Entry.{Entry}
 use Rattle.mk_plan.specs.Journals.{Arrival}
 use Rattle.mk_plan.specs.Sequential.{run_items}
 use Rattle.mk_plan.specs.Report.{report}
-use Rattle.mk_record.specs.Reading.{reading, Said, Faulty}
+use Rattle.mk_record.specs.Reading.{Said, Faulty}
 use Rattle.mk_record.specs.Asked.{Asked}
 use Rattle.mk_record.specs.Replays.{messages_from}
 use Rattle.mk_record.specs.Orders.{IsReplayBy}
@@ -13,8 +13,9 @@ use Rattle.mk_record.specs.ReplayEnd.{ReplayEnd}
 use Rattle.mk_record.specs.ReplayEnd.TheVariants as ends
 use Rattle.mk_record_replay.proofs.OneOrder.{one_replay_by}
 use Rattle.mosaikrun_endings.specs.declared.ending.Ending.{Ending}
-use Rattle.mosaikrun_endings.specs.declared.ending.Ending.TheVariants.{Usage, Missing, TooLong, Scenario, Watches, Cycle, Launch, Setup, Record, Wrong, Failed, LoopLimit, Link, Short, Differs, OtherPlan, OtherMessage, Late, Fleet, Folder, Output, Entries, LongItem, Mem}
-use Rattle.mosaikrun_records.specs.Reports.{IsDoneBy, IsReportOf, EndsEarly, IsSaidOf, IsOutcome, Unreported}
+use Rattle.mosaikrun_endings.specs.declared.ending.Ending.TheVariants.{Record, Mem}
+use Rattle.mosaikrun_records.specs.Reports.{IsReportOf, IsOutcome, Unreported}
+use Rattle.mosaikrun_records.specs.Saved.{EndsEarly, IsDoneBy, IsRecord, IsSaidOf, IsUnread}
 
 -- the record of bytes that are read as two is one
 module _ (P Q : Plan) (A B : List Arrival) (s z : Option (List Asked)) (same : Said P A s ≡ Said Q B z) where
@@ -73,37 +74,6 @@ one_stop bytes order e f r q =
     let c = subst (λ (x : ReplayEnd). IsSaidOf q.plan q.journal x e) one.1 b in
     said_once q.plan q.journal q.end e f c q.said
 
--- why there is no report, in two kinds
-data Cause (bytes : List ℕ) (order : Option ℕ) : Ending → Type 0 where
-  faulty : (line fault : ℕ) → reading bytes ≡ Faulty line fault → Cause bytes order (Record line fault)
-  stopped : (e : Ending) → EndsEarly bytes order e → Cause bytes order e
-
-cause_of : (bytes : List ℕ) (order : Option ℕ) (e : Ending) → Unreported bytes order e → (e ≡ Mem) ⊎ Cause bytes order e
-cause_of bytes order Usage h = absurd h
-cause_of bytes order (Missing name) h = absurd h
-cause_of bytes order (TooLong name count) h = absurd h
-cause_of bytes order (Scenario fault) h = absurd h
-cause_of bytes order (Watches fault) h = absurd h
-cause_of bytes order (Cycle sims) h = absurd h
-cause_of bytes order (Launch sim fault) h = absurd h
-cause_of bytes order (Record line fault) h = inr (faulty line fault h)
-cause_of bytes order (Wrong sim place cause) h = inr (stopped (Wrong sim place cause) h)
-cause_of bytes order (Failed sim text) h = inr (stopped (Failed sim text) h)
-cause_of bytes order (LoopLimit sim time) h = inr (stopped (LoopLimit sim time) h)
-cause_of bytes order (Short outstanding) h = inr (stopped (Short outstanding) h)
-cause_of bytes order (Differs entry) h = inr (stopped (Differs entry) h)
-cause_of bytes order (OtherPlan part) h = absurd h
-cause_of bytes order (OtherMessage sim place) h = absurd h
-cause_of bytes order (Late sim time late allowed) h = absurd h
-cause_of bytes order Folder h = absurd h
-cause_of bytes order (Setup setup) h = absurd h
-cause_of bytes order (Link sim fault) h = absurd h
-cause_of bytes order (LongItem sim length) h = absurd h
-cause_of bytes order Fleet h = absurd h
-cause_of bytes order Output h = absurd h
-cause_of bytes order (Entries entries) h = inr (stopped (Entries entries) h)
-cause_of bytes order Mem h = inl refl
-
 -- a record with a fault is none that is said
 pub faulty_not : (P : Plan) (A : List Arrival) (s : Option (List Asked)) (line fault : ℕ) → Said P A s ≡ Faulty line fault → ⊥
 faulty_not P A s line fault same = cc
@@ -114,19 +84,39 @@ same_fault line fault l f same =
     let faults : fault ≡ f = cc in
     ap (λ x. Record x fault) lines ∙ ap (λ x. Record l x) faults
 
-one_cause : (bytes : List ℕ) (order : Option ℕ) (e f : Ending) → Cause bytes order e → Cause bytes order f → e ≡ f
-one_cause bytes order _ _ (faulty line fault a) (faulty l f b) = same_fault line fault l f (sym a ∙ b)
-one_cause bytes order _ _ (faulty line fault a) (stopped f b) = absurd (faulty_not b.plan b.arrivals b.steps line fault (sym b.read ∙ a))
-one_cause bytes order _ _ (stopped e a) (faulty l f b) = absurd (faulty_not a.plan a.arrivals a.steps l f (sym a.read ∙ b))
-one_cause bytes order _ _ (stopped e a) (stopped f b) = one_stop bytes order e f a b
+-- what stops is a record
+pub record_stops : (bytes : List ℕ) (order : Option ℕ) (e : Ending) → EndsEarly bytes order e → IsRecord bytes
+record_stops bytes order e a = record { plan = a.plan; arrivals = a.arrivals; steps = a.steps; read = a.read }
 
-text_or_cause : (bytes : List ℕ) (order : Option ℕ) (t : List ℕ) (e : Ending) → IsReportOf bytes order t → Cause bytes order e → ⊥
-text_or_cause bytes order t _ r (faulty line fault b) = faulty_not r.plan r.arrivals r.steps line fault (sym r.read ∙ b)
-text_or_cause bytes order t _ r (stopped e b) = not_both bytes order t e r b
+-- a record isn't unread, but for want of memory
+record_or_unread : (bytes : List ℕ) (e : Ending) → IsRecord bytes → IsUnread bytes e → (e ≡ Mem → ⊥) → ⊥
+record_or_unread bytes e a (inl mem) not = not mem
+record_or_unread bytes e a (inr fault) not = faulty_not a.plan a.arrivals a.steps fault.0 fault.1 (sym a.read ∙ fault.3)
+
+unread_once : (bytes : List ℕ) (e f : Ending) → IsUnread bytes e → IsUnread bytes f → (e ≡ Mem → ⊥) → (f ≡ Mem → ⊥) → e ≡ f
+unread_once bytes e f (inl mem) b m n = absurd (m mem)
+unread_once bytes e f (inr x) (inl mem) m n = absurd (n mem)
+unread_once bytes e f (inr x) (inr y) m n = x.2 ∙ same_fault x.0 x.1 y.0 y.1 (sym x.3 ∙ y.3) ∙ sym y.2
+
+-- want of memory aside, of bytes that are no record, or whose replay stops, one thing is said
+module _ (bytes : List ℕ) (Stops : Ending → Type 0) (is_record : (e : Ending) → Stops e → IsRecord bytes) (once : (e f : Ending) → Stops e → Stops f → e ≡ f) where
+  pub one_ending : (e f : Ending) → IsUnread bytes e ⊎ Stops e → IsUnread bytes f ⊎ Stops f → (e ≡ Mem → ⊥) → (f ≡ Mem → ⊥) → e ≡ f
+  one_ending e f (inl a) (inl b) m n = unread_once bytes e f a b m n
+  one_ending e f (inl a) (inr t) m n = absurd (record_or_unread bytes e (is_record f t) a m)
+  one_ending e f (inr s) (inl b) m n = absurd (record_or_unread bytes f (is_record e s) b n)
+  one_ending e f (inr s) (inr t) m n = once e f s t
+
+-- and none of these of a record that doesn't stop
+pub no_ending : (bytes : List ℕ) (e : Ending) (Stops : Type 0) → IsRecord bytes → (Stops → ⊥) → IsUnread bytes e ⊎ Stops → (e ≡ Mem → ⊥) → ⊥
+no_ending bytes e Stops a not (inl unread) m = record_or_unread bytes e a unread m
+no_ending bytes e Stops a not (inr stops) m = not stops
+
+text_or_ending : (bytes : List ℕ) (order : Option ℕ) (t : List ℕ) (e : Ending) → IsReportOf bytes order t → Unreported bytes order e → (e ≡ Mem → ⊥) → ⊥
+text_or_ending bytes order t e r a m = no_ending bytes e (EndsEarly bytes order e) (record { plan = r.plan; arrivals = r.arrivals; steps = r.steps; read = r.read }) (not_both bytes order t e r) a m
 
 -- want of memory aside, what comes of one record is one
 pub one_outcome : (bytes : List ℕ) (order : Option ℕ) (o p : Result (List ℕ) Ending) → IsOutcome bytes order o → IsOutcome bytes order p → (o ≡ Err Mem → ⊥) → (p ≡ Err Mem → ⊥) → o ≡ p
 one_outcome bytes order (Ok t) (Ok u) a b m n = ap Ok (one_text bytes order order t u a b)
-one_outcome bytes order (Ok t) (Err f) a b m n = elim (cause_of bytes order f b) [ inl mem ↦ absurd (n (ap Err mem)) | inr cause ↦ absurd (text_or_cause bytes order t f a cause) ]
-one_outcome bytes order (Err e) (Ok u) a b m n = elim (cause_of bytes order e a) [ inl mem ↦ absurd (m (ap Err mem)) | inr cause ↦ absurd (text_or_cause bytes order u e b cause) ]
-one_outcome bytes order (Err e) (Err f) a b m n = elim (cause_of bytes order e a) [ inl mem ↦ absurd (m (ap Err mem)) | inr cause ↦ elim (cause_of bytes order f b) [ inl mem ↦ absurd (n (ap Err mem)) | inr other ↦ ap Err (one_cause bytes order e f cause other) ] ]
+one_outcome bytes order (Ok t) (Err f) a b m n = absurd (text_or_ending bytes order t f a b (λ mem. n (ap Err mem)))
+one_outcome bytes order (Err e) (Ok u) a b m n = absurd (text_or_ending bytes order u e b a (λ mem. m (ap Err mem)))
+one_outcome bytes order (Err e) (Err f) a b m n = ap Err (one_ending bytes (EndsEarly bytes order) (record_stops bytes order) (one_stop bytes order) e f a b (λ mem. m (ap Err mem)) (λ mem. n (ap Err mem)))

@@ -1,5 +1,5 @@
 -- Bytes are one record, and its replay comes to one journal or to one end.
-use Rattle.std.proofs.Common.{◌≡◌, ℕ, List, Option, None, sym, ◌∙◌, subst}
+use Rattle.std.proofs.Common.{◌≡◌, ℕ, List, None, sym, ◌∙◌, subst}
 use Rattle.mk_plan.specs.declared.Plan.{Plan}
 use Rattle.mk_plan.specs.declared.Entry.{Entry}
 use Rattle.mk_record.specs.Reading.{reading, Faulty}
@@ -7,8 +7,7 @@ use Rattle.mk_record.specs.ReplayEnd.{ReplayEnd}
 use Rattle.mk_record.specs.ReplayEnd.TheVariants as ends
 use Rattle.mosaikrun_endings.specs.declared.ending.Ending.{Ending}
 use Rattle.mosaikrun_endings.specs.declared.ending.Ending.TheVariants.{Record}
-use Rattle.mosaikrun_records.specs.Reports.{EndsEarly, IsSaidOf}
-use Rattle.mosaikrun_records.specs.Saved.{IsRecord, ReplaysTo}
+use Rattle.mosaikrun_records.specs.Saved.{EndsEarly, IsRecord, IsSaidOf, ReplaysTo}
 use Rattle.mosaikrun_records.proofs.OneOutcome.{done_is, faulty_not, same_end, same_fault, same_plan}
 
 module _ (bytes : List ℕ) where
@@ -37,9 +36,6 @@ module _ (bytes : List ℕ) where
   pub faulty_once : (line fault l f : ℕ) → reading bytes ≡ Faulty line fault → reading bytes ≡ Faulty l f → Record line fault ≡ Record l f
   faulty_once line fault l f a b = same_fault line fault l f (sym a ∙ b)
 
-  -- what is replayed or stopped is a record
+  -- what is replayed is a record
   pub record_replays : (P : Plan) (J : List Entry) → ReplaysTo bytes P J → IsRecord bytes
   record_replays P J a = record { plan = P; arrivals = a.arrivals; steps = a.steps; read = a.read }
-
-  pub record_stops : (order : Option ℕ) (e : Ending) → EndsEarly bytes order e → IsRecord bytes
-  record_stops order e a = record { plan = a.plan; arrivals = a.arrivals; steps = a.steps; read = a.read }

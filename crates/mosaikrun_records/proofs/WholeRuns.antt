@@ -20,14 +20,11 @@ use Rattle.mk_record.specs.Orders.{IsReplayBy, IsReplayInOrder}
 use Rattle.mk_record.specs.ReplayEnd.{ReplayEnd}
 use Rattle.mk_record.specs.ReplayEnd.TheVariants.{Done, Core, Short, Other}
 use Rattle.mk_record_report.proofs.Bare.{report_bare}
-use Rattle.mosaikrun_records.specs.Reports.{IsDoneBy, IsReportOf, IsSaidOf, EndsEarly, Unreported}
-use Rattle.mosaikrun_records.specs.Saved.{IsNotDone, IsUnread}
+use Rattle.mosaikrun_records.specs.Reports.{IsReportOf, Unreported}
+use Rattle.mosaikrun_records.specs.Saved.{IsDoneBy, IsNotDone, IsSaidOf, IsUnread}
 use Rattle.mosaikrun_records.specs.inner.Saved.{IsSaidOrMemory}
-use Rattle.mosaikrun_sayings.specs.Stops.{stop_of}
 use Rattle.mosaikrun_endings.specs.declared.ending.Ending.{Ending}
-use Rattle.mosaikrun_endings.specs.declared.ending.Ending.TheVariants.{Short as ShortEnding, Differs, Mem}
-use Rattle.mk_sched.specs.declared.faults.CoreFault.{CoreFault}
-use Rattle.mk_sched.specs.declared.faults.CoreFault.TheVariants as core
+use Rattle.mosaikrun_endings.specs.declared.ending.Ending.TheVariants.{Short as ShortEnding, Differs}
 
 -- one more message, if it is the simulator's
 one_more : (b : Bool) (a : Arrival) (ms : List Message) (came : List Arrival) → ms ≡ map (λ (x : Arrival). x.message) came
@@ -126,27 +123,11 @@ unfinished P Q A steps order J end e valid same replayed (inr said) bytes read =
 pub if_err : {A E : Type 0} (r : Result A E) (e : E) (F : E → Type 0) → r ≡ Err e → F e → IfErr r F
 if_err {A} {E} r e F is holds = subst (λ (x : Result A E). IfErr x F) (sym is) holds
 
--- and has no report
-as_stopped : (bytes : List ℕ) (order : Option ℕ) (P : Plan) (J : List Entry) (fault : CoreFault) → EndsEarly bytes order (stop_of P J fault) → Unreported bytes order (stop_of P J fault)
-as_stopped bytes order P J (core.Wrong s place cause) h = h
-as_stopped bytes order P J (core.Failed s place) h = h
-as_stopped bytes order P J (core.LoopLimit s time) h = h
-as_stopped bytes order P J (core.TooLong count) h = h
-
+-- and has no report; nor has what is no record
 module _ (bytes : List ℕ) (order : Option ℕ) where
-  by_end : (P : Plan) (J : List Entry) (end : ReplayEnd) (e : Ending) → IsSaidOf P J end e → EndsEarly bytes order e → Unreported bytes order e
-  by_end P J Done e said s = absurd said
-  by_end P J (Short n) e said s = subst (Unreported bytes order) (sym said) (subst (EndsEarly bytes order) said s)
-  by_end P J (Other n) e said s = subst (Unreported bytes order) (sym said) (subst (EndsEarly bytes order) said s)
-  by_end P J (Core fault) e said s = subst (Unreported bytes order) (sym said) (as_stopped bytes order P J fault (subst (EndsEarly bytes order) said s))
-
-  memory : (e : Ending) → e ≡ Mem → Unreported bytes order e
-  memory e is = subst (Unreported bytes order) (sym is) tt
-
   pub unfinished_unreported : (e : Ending) → IsNotDone bytes order e → Unreported bytes order e
-  unfinished_unreported e (inl wanting) = memory e wanting
-  unfinished_unreported e (inr s) = by_end s.plan s.journal s.end e s.said s
+  unfinished_unreported e (inl wanting) = inl (inl wanting)
+  unfinished_unreported e (inr stopped) = inr stopped
 
   pub unread_unreported : (e : Ending) → IsUnread bytes e → Unreported bytes order e
-  unread_unreported e (inl wanting) = memory e wanting
-  unread_unreported e (inr fault) = subst (Unreported bytes order) (sym fault.2) fault.3
+  unread_unreported e unread = inl unread

@@ -4,8 +4,7 @@ ghost use Rattle.mk_plan.specs.Plans.{IsValidPlan};
 ghost use Rattle.mk_record.specs.Reading.{reading, Said};
 ghost use Rattle.mk_record.specs.Seen.{came};
 ghost use Rattle.mk_record.specs.Steps.{IsKnown};
-ghost use Rattle.mosaikrun_records.specs.Reports.{IsDoneBy};
-ghost use Rattle.mosaikrun_records.specs.Saved.{IsNotDone, IsUnread};
+ghost use Rattle.mosaikrun_records.specs.Saved.{IsDoneBy, IsNotDone, IsUnread};
 ghost use Rattle.mosaikrun_records.specs.inner.Saved.{IsSaidOrMemory};
 
 use mk_record::{RecordFault, ReplayEnd, Replayed, Saved, read_record, replay};

@@ -14,8 +14,7 @@ use Rattle.mk_watch_read.specs.declared.watches.Watch.{Watch}
 use Rattle.mk_watch_read.specs.Watches.{AreInside, watches_of}
 use Rattle.mk_watch.specs.Tables.{tables_text}
 use Rattle.mosaikrun_endings.specs.declared.ending.Ending.{Ending}
-use Rattle.mosaikrun_records.specs.Reports.{IsDoneBy}
-use Rattle.mosaikrun_records.specs.Saved.{IsNotDone}
+use Rattle.mosaikrun_records.specs.Saved.{IsDoneBy, IsNotDone}
 use Rattle.mosaikrun_records.proofs.WholeRuns.{got_is}
 use Rattle.mosaikrun_watch.specs.Watched.{IsNoWatch, IsTabled, IsUntabled}
 use Rattle.mk_watch.proofs.Whole.{same_tables}

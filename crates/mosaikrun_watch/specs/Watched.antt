@@ -15,8 +15,7 @@ use Rattle.mk_watch_read.specs.Watches.{watches_of}
 use Rattle.mk_watch.specs.Tables.{tables_text}
 use Rattle.mosaikrun_endings.specs.declared.ending.Ending.{Ending}
 use Rattle.mosaikrun_endings.specs.declared.ending.Ending.TheVariants as ends
-use Rattle.mosaikrun_records.specs.Reports.{EndsEarly}
-use Rattle.mosaikrun_records.specs.Saved.{IsUnread, ReplaysTo}
+use Rattle.mosaikrun_records.specs.Saved.{EndsEarly, IsUnread, ReplaysTo}
 
 -- the bytes are a record of a valid plan, and its replay, the messages as they came, comes to a
 -- journal in which all is done; the file says watches over that plan; and the text is their tables

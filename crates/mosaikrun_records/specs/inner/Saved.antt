@@ -5,7 +5,7 @@ use Rattle.mk_plan.specs.declared.Entry.{Entry}
 use Rattle.mk_record.specs.ReplayEnd.{ReplayEnd}
 use Rattle.mosaikrun_endings.specs.declared.ending.Ending.{Ending}
 use Rattle.mosaikrun_endings.specs.declared.ending.Ending.TheVariants as ends
-use Rattle.mosaikrun_records.specs.Reports.{IsSaidOf}
+use Rattle.mosaikrun_records.specs.Saved.{IsSaidOf}
 
 -- the ending says how a replay ended that isn't done, or memory is wanting
 abbrev pub IsSaidOrMemory : Plan → List Entry → ReplayEnd → Ending → Type 0

@@ -1,7 +1,7 @@
 -- Answers to the goals of `migrating::migrated` that the prover leaves.
 use Rattle.std.proofs.Common.{map, arith}
 use Rattle.mk_record.specs.Seen.{came}
-use Rattle.mosaikrun_records.proofs.Keeping.{all_came, all_writable, record_done, record_fault, record_short, some_missing, stopped_early, unread_unmigrated}
+use Rattle.mosaikrun_records.proofs.Keeping.{all_came, all_writable, differs, record_done, record_fault, record_short, some_missing, stopped_early, unread_unmigrated}
 use Rattle.mosaikrun_records.proofs.migrating.migrated.Goals as goal
 
 pub returns-in_err-saved-clause-none : goal.returns-in_err-saved-clause-none
@@ -24,6 +24,12 @@ returns-in-Short-clause-record c =
     let replayed = c.in_ok-replayed.ensures in
     record_short c.in_ok-saved.saved.plan (map came c.in_ok-saved.saved.arrivals) c.in_ok-saved.saved.asks c.in_ok-replayed.replayed.journal.entries c.args.bytes.now c.in_ok-replayed.replayed.plan c.in_ok-replayed.replayed.end
     c.in_ok-saved.ensures.read c.in_ok-saved.ensures.valid replayed.plan replayed.replay c.in_ok-rewritten-in-Short.field-0.items c.in-Short.field-0 c.in-Short.is c.in_ok-rewritten-in-Short.ensures
+
+pub returns-in-Other-clause-none : goal.returns-in-Other-clause-none
+returns-in-Other-clause-none c =
+    let replayed = c.in_ok-replayed.ensures in
+    differs c.in_ok-saved.saved.plan (map came c.in_ok-saved.saved.arrivals) c.in_ok-saved.saved.asks c.in_ok-replayed.replayed.journal.entries c.args.bytes.now c.in_ok-replayed.replayed.plan c.in_ok-replayed.replayed.end
+    c.in_ok-saved.ensures.read c.in_ok-saved.ensures.valid replayed.plan replayed.replay c.in-Other.entry c.in-Other.is
 
 pub rewritten-requires-then-all : goal.rewritten-requires-then-all
 rewritten-requires-then-all c = all_writable c.in_ok-saved.saved.plan c.in_ok-replayed.replayed.journal.entries (map came c.in_ok-saved.saved.arrivals) c.in_ok-saved.ensures.known c.in_ok-replayed.ensures.replay.0.given
