@@ -34,15 +34,15 @@ one_text bytes t u r q =
     r.written ∙ ap (λ (P : Plan). record_text P r.journal) plan ∙ ap (record_text q.plan) one.0 ∙ sym q.written
 
 not_both : (bytes t : List ℕ) (e : Ending) → IsRecordOf bytes t → IsNoRecordOf bytes e → ⊥
-not_both bytes t e r no =
-    let q = no.stopped in
+not_both bytes t e r unsaved =
+    let q = unsaved.stopped in
     let same = sym r.read ∙ q.read in
     let came = outcome.same_arrivals r.plan q.plan r.arrivals q.arrivals r.steps q.steps same in
     let one = outcome.same_end r.plan q.plan r.arrivals q.arrivals r.steps q.steps same None r.journal q.journal r.end q.end r.replayed q.replayed in
     let a = subst (λ (A : List Arrival). HasAllMessages A r.journal r.end) came r.kept in
     let b = subst (λ (J : List Entry). HasAllMessages q.arrivals J r.end) one.0 a in
     let c = subst (λ (x : ReplayEnd). HasAllMessages q.arrivals q.journal x) one.1 b in
-    kept_not q.arrivals q.journal q.end c no.lost
+    kept_not q.arrivals q.journal q.end c unsaved.lost
 
 one_stop : (bytes : List ℕ) (e f : Ending) → IsNoRecordOf bytes e → IsNoRecordOf bytes f → e ≡ f
 one_stop bytes e f r q = outcome.one_stop bytes None e f r.stopped q.stopped

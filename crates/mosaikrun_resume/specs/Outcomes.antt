@@ -17,7 +17,7 @@ use Rattle.mosaikrun_check.specs.Runnable.{IsRunnable}
 use Rattle.mosaikrun_endings.specs.declared.ending.Ending.{Ending}
 use Rattle.mosaikrun_endings.specs.declared.ending.Ending.TheVariants as endings
 use Rattle.mosaikrun_records.specs.Saved.{IsUnread}
-use Rattle.mosaikrun_run.specs.Outcomes.{IsIdle, IsReadAgain, IsSaid, IsUnrun, Outside, attempt_in}
+use Rattle.mosaikrun_run.specs.Outcomes.{IsIdleFor, IsReadAgain, IsSaid, IsUnrun, Outside, attempt_in}
 use Rattle.mosaikrun_run.specs.Sayings.{record_of}
 use Rattle.mosaikrun_sayings.specs.Sayings.{ids_of}
 use Rattle.mosaikrun_resume.specs.Sayings.{resume_saying}
@@ -59,12 +59,8 @@ IsSavedOutcome O wanted S ranks saved text kept = IsUnrun O S text kept
     ⊎ (IsNotTaken O S ranks saved text kept ⊎ HasGoneOn O wanted S ranks saved text kept)
 
 -- the bytes are no record, and nothing was done
-pub record IsNoRecord (O : Outside) (bytes : List ℕ) (text : Result (List ℕ) Ending)
-    (kept : Option (List ℕ)) : Type 0 where
-  pub ending : Ending
-  pub is : text ≡ Err ending
-  pub cause : IsUnread bytes ending
-  pub idle : IsIdle O kept
+abbrev pub IsNoRecord : Outside → List ℕ → Result (List ℕ) Ending → Option (List ℕ) → Type 0
+IsNoRecord O bytes = IsIdleFor O (IsUnread bytes)
 
 -- the bytes are a record, and this comes of it
 pub record HasRecord (O : Outside) (wanted : Bool) (S : Scenario) (ranks bytes : List ℕ)
@@ -80,12 +76,8 @@ IsStudyOutcome O wanted S ranks bytes text kept = IsNoRecord O bytes text kept
     ⊎ HasRecord O wanted S ranks bytes text kept
 
 -- the bytes are no scenario that can be run, and nothing was done
-pub record IsNoStudy (O : Outside) (bytes : List ℕ) (text : Result (List ℕ) Ending)
-    (kept : Option (List ℕ)) : Type 0 where
-  pub ending : Ending
-  pub is : text ≡ Err ending
-  pub cause : IsUnchecked (map name_of O.kinds) bytes ending
-  pub idle : IsIdle O kept
+abbrev pub IsNoStudy : Outside → List ℕ → Result (List ℕ) Ending → Option (List ℕ) → Type 0
+IsNoStudy O bytes = IsIdleFor O (IsUnchecked (map name_of O.kinds) bytes)
 
 -- the bytes are a scenario, which is well-formed and has these ranks, and can be run
 pub record IsStudy (kinds : List (List ℕ)) (bytes : List ℕ) : Type 0 where

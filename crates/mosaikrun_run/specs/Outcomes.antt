@@ -75,13 +75,18 @@ pub record IsIdle (O : Outside) (record_ : Option (List ℕ)) : Type 0 where
 abbrev pub IsSaid : Result (List ℕ) Ending → Result (List ℕ) Ending → Type 0
 IsSaid wanted text = (text ≡ wanted) ⊎ (text ≡ Err ends.Mem)
 
--- the scenario can't be run, and nothing was done
-pub record IsUnrunnableScenario (O : Outside) (S : Scenario) (text : Result (List ℕ) Ending)
+-- nothing was done, and an ending is said that has this cause
+pub record IsIdleFor (O : Outside) (Cause : Ending → Type 0) (text : Result (List ℕ) Ending)
     (record_ : Option (List ℕ)) : Type 0 where
   pub ending : Ending
   pub is : text ≡ Err ending
-  pub cause : IsUnrunnable (map name_of O.kinds) S ending
+  pub cause : Cause ending
   pub idle : IsIdle O record_
+
+-- the scenario can't be run, and nothing was done
+abbrev pub IsUnrunnableScenario : Outside → Scenario → Result (List ℕ) Ending → Option (List ℕ)
+    → Type 0
+IsUnrunnableScenario O S = IsIdleFor O (IsUnrunnable (map name_of O.kinds) S)
 
 -- the scenario can be run, but wasn't: the handshake ended early, or memory was wanting
 pub record IsUnrun (O : Outside) (S : Scenario) (text : Result (List ℕ) Ending)
@@ -122,12 +127,8 @@ IsScenarioOutcome O form wanted S text record_ = IsUnrunnableScenario O S text r
     ⊎ (IsUnrun O S text record_ ⊎ IsPlayed O form wanted S text record_)
 
 -- the bytes are no scenario, and nothing was done
-pub record IsNoScenario (O : Outside) (bytes : List ℕ) (text : Result (List ℕ) Ending)
-    (record_ : Option (List ℕ)) : Type 0 where
-  pub ending : Ending
-  pub is : text ≡ Err ending
-  pub cause : IsUnread bytes ending
-  pub idle : IsIdle O record_
+abbrev pub IsNoScenario : Outside → List ℕ → Result (List ℕ) Ending → Option (List ℕ) → Type 0
+IsNoScenario O bytes = IsIdleFor O (IsUnread bytes)
 
 -- the bytes are a scenario, which is well-formed, and this comes of it
 pub record HasScenario (O : Outside) (wanted : Bool) (bytes : List ℕ)
