@@ -6,9 +6,9 @@ use Rattle.mk_entities.specs.Creation.{entity_number}
 use Rattle.mk_scenario.specs.declared.parts.SimPart.{SimPart}
 use Rattle.mk_scenario.specs.declared.parts.Place.{Place}
 use Rattle.mk_scenario.specs.declared.parts.Place.TheVariants.{Whole, One, Full}
+use Rattle.mk_scenario.specs.Ids.{id_of_sim}
 use Rattle.mk_connect_pairs.specs.declared.fault.ConnectFault.{ConnectFault}
 use Rattle.mk_connect_pairs.specs.declared.fault.ConnectFault.TheVariants.{NoEntity}
-use Rattle.mk_connect_pairs.specs.Groups.{id_of_sim}
 
 -- the entity was created for this group
 abbrev pub is_of_group : ℕ → EntityInfo → Bool

@@ -1,5 +1,5 @@
 -- The test of a group, before its entities are created.
-use Rattle.std.specs.Prelude.{ℕ, List, [], Option, Some, None, option_map, unwrap_or, slice_get, if◌then◌else◌}
+use Rattle.std.specs.Prelude.{ℕ, List, Option, Some, None, option_map, unwrap_or, slice_get, if◌then◌else◌}
 use Rattle.std.specs.List.{find}
 use Rattle.mk_base.specs.Lists.{same_text}
 use Rattle.mk_meta.specs.declared.meta.ModelMeta.{ModelMeta}
@@ -7,13 +7,10 @@ use Rattle.mk_meta.specs.declared.meta.Meta.{Meta}
 use Rattle.mk_scenario.specs.declared.parts.SimPart.{SimPart}
 use Rattle.mk_scenario.specs.declared.parts.Group.{Group}
 use Rattle.mk_scenario.specs.declared.parts.Scenario.{Scenario}
+use Rattle.mk_scenario.specs.Ids.{id_of_sim}
 use Rattle.mk_scenario_keys.specs.Keys.{first_unknown}
 use Rattle.mk_connect_pairs.specs.declared.fault.ConnectFault.{ConnectFault}
 use Rattle.mk_connect_pairs.specs.declared.fault.ConnectFault.TheVariants.{NotPublic, UnknownParam}
-
--- the id of a simulator
-abbrev pub id_of_sim : List SimPart → ℕ → List ℕ
-id_of_sim sims s = unwrap_or (option_map (λ (p : SimPart). p.id) (slice_get sims s)) []
 
 -- the model of this name
 abbrev pub model_named : List ModelMeta → List ℕ → Option ModelMeta

@@ -5,10 +5,9 @@ ghost use Rattle.mk_connect_pairs.specs.Ends.{ends_at, full_id, name_of, pairs_b
 ghost use Rattle.mk_connect_pairs.specs.Usable.{HasGroup};
 
 use crate::fault::ConnectFault;
-use crate::groups::id_of_sim;
 use crate::study::Study;
 use mk_base::{List, Mem, Text};
-use mk_scenario::{Place, SimPart};
+use mk_scenario::{Place, SimPart, id_of_sim};
 use std::alloc::Global;
 
 // The entities at a place, none where the full id is no entity's or the group has none at the index.
@@ -64,8 +63,8 @@ pub fn place_fault(alloc: Global, study: &Study, place: &Place) -> Result<Option
 fn name_of(alloc: Global, sims: &[SimPart], sim: u32, eid: &Text) -> Result<Text, Mem>
     ensures { IfOk result (λ name. name ≡ name_of sims.now sim eid.now) }
 {
-    let id = id_of_sim(alloc, sims, sim)?;
-    let name = format!(in alloc; "{}.{}", id.as_str(), eid.as_str())?;
+    let id = id_of_sim(sims, sim as usize);
+    let name = format!(in alloc; "{}.{}", id, eid.as_str())?;
     Text::of(alloc, name.as_str())
 }
 

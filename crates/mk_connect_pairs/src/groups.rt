@@ -4,14 +4,14 @@ ghost use Rattle.std.specs.List.{find};
 ghost use Rattle.mk_scenario.specs.Wellformed.{IsWellformed};
 ghost use Rattle.mk_base.specs.declared.json.Json.{Json};
 ghost use Rattle.mk_scenario_keys.specs.Keys.{first_unknown};
-ghost use Rattle.mk_connect_pairs.specs.Groups.{fault_of_group, group_fault, id_of_sim, model_named, param_fault};
+ghost use Rattle.mk_connect_pairs.specs.Groups.{fault_of_group, group_fault, model_named, param_fault};
 ghost use Rattle.mk_base.specs.Trees.{members_of};
 ghost use Rattle.mk_base.specs.Lists.{is_among};
 
 use crate::fault::ConnectFault;
 use mk_base::{Json, List, Mem, Text};
 use mk_meta::{Meta, ModelMeta, Texts, texts_of};
-use mk_scenario::{Group, Scenario, SimPart};
+use mk_scenario::{Group, Scenario, SimPart, id_of_sim};
 use std::alloc::Global;
 
 /// The test of the group at this place by its simulator's metadata, before its entities are created (mosaik 3,
@@ -47,7 +47,7 @@ fn group_fault(
     match model_named(&meta.models, &group.model) {
         Some(model) if model.public => param_fault(alloc, model, group),
         _ => {
-            let sim = id_of_sim(alloc, sims, group.sim.0)?;
+            let sim = Text::of(alloc, id_of_sim(sims, group.sim.0 as usize))?;
             let model = group.model.copy()?;
             Ok(Some(ConnectFault::NotPublic(sim, model)))
         }
@@ -61,16 +61,6 @@ fn model_named<'a>(models: &'a List<ModelMeta>, name: &Text) -> Option<&'a Model
         .as_slice()
         .iter()
         .find(|m| m.name.bytes() == name.bytes())
-}
-
-// The id of the simulator of this number.
-pub fn id_of_sim(alloc: Global, sims: &[SimPart], sim: u32) -> Result<Text, Mem>
-    ensures { IfOk result (λ id. id ≡ id_of_sim sims.now sim) }
-{
-    match sims.get(sim as usize) {
-        Some(part) => part.id.copy(),
-        None => Text::of(alloc, ""),
-    }
 }
 
 fn param_fault(alloc: Global, model: &ModelMeta, group: &Group) -> Result<Option<ConnectFault>, Mem>

@@ -2,6 +2,7 @@
 pub mod Sims
 pub mod Places
 pub mod Groups
+pub mod Ids
 pub mod References
 pub mod Blocks
 pub mod Scenarios

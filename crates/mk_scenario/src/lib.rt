@@ -14,5 +14,5 @@ mod top;
 
 // Why a text is no scenario stands with the keys' values.
 pub use mk_scenario_keys::ScenarioFault;
-pub use parts::{AttrPair, Begin, Block, Group, Place, Scenario, SimPart};
+pub use parts::{AttrPair, Begin, Block, Group, Place, Scenario, SimPart, id_of_sim};
 pub use read::read_scenario;

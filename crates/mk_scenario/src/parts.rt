@@ -1,4 +1,6 @@
 //! What a scenario is made of.
+ghost use Rattle.std.specs.Prelude.{◌≡◌};
+ghost use Rattle.mk_scenario.specs.Ids.{id_of_sim};
 
 use mk_base::{Json, List, SimNo, Text, Via};
 
@@ -69,4 +71,14 @@ pub struct Scenario {
     pub sims: List<SimPart>,
     pub groups: List<Group>,
     pub blocks: List<Block>,
+}
+
+/// The id of the simulator of this number; no text where there is none.
+pub fn id_of_sim(sims: &[SimPart], sim: usize) -> &str
+    ensures { result.now ≡ id_of_sim sims.now sim }
+{
+    match sims.get(sim) {
+        Some(part) => part.id.as_str(),
+        None => "",
+    }
 }

@@ -20,7 +20,8 @@ use Rattle.mk_entities.specs.Descriptions.{reply_entities}
 use Rattle.mk_scenario.specs.declared.parts.Scenario.{Scenario}
 use Rattle.mk_scenario.specs.declared.parts.Group.{Group}
 use Rattle.mk_connect.specs.Complete.{has_model}
-use Rattle.mk_connect_pairs.specs.Groups.{fault_of_group, group_fault, id_of_sim, model_fault, model_named}
+use Rattle.mk_connect_pairs.specs.Groups.{fault_of_group, group_fault, model_fault, model_named}
+use Rattle.mk_scenario.specs.Ids.{id_of_sim}
 use Rattle.mk_connect.proofs.ByPlaces.{range_get}
 use Rattle.mk_setup.proofs.Replied.{ok_err, ok_same}
 use Rattle.mk_base.proofs.Guessing.{text_is}

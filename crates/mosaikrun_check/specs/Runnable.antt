@@ -12,7 +12,7 @@ use Rattle.mk_launch.specs.declared.faults.Unready.{Unready}
 use Rattle.mk_launch.specs.Ready.{IsFirstFault, IsPrepared}
 use Rattle.mosaikrun_endings.specs.declared.ending.Ending.{Ending}
 use Rattle.mosaikrun_endings.specs.declared.ending.Ending.TheVariants as ends
-use Rattle.mosaikrun_check.specs.CheckText.{id_at}
+use Rattle.mk_scenario.specs.Ids.{id_of_sim}
 
 -- these are the ranks of the scenario's simulators
 abbrev pub AreRanks : Scenario → List ℕ → Type 0
@@ -30,13 +30,13 @@ pub record IsRunnable (kinds : List (List ℕ)) (S : Scenario) (ranks : List ℕ
 pub record IsUnbegun (S : Scenario) (kinds : List (List ℕ)) (ending : Ending) : Type 0 where
   pub unready : Unready
   pub first : IsFirstFault S kinds unready
-  pub is : ending ≡ ends.Launch (id_at S unready.sim.0) unready.fault
+  pub is : ending ≡ ends.Launch (id_of_sim S.sims unready.sim.0) unready.fault
 
 -- the ending has the ids of the simulators of the cycle that leaves no ranks
 pub record IsCircular (S : Scenario) (ending : Ending) : Type 0 where
   pub walk : List SimNo
   pub cycle : IsCycle (has_edge (edges_of S)) (length S.sims) (numbers walk)
-  pub is : ending ≡ ends.Cycle (map (λ (s : SimNo). id_at S s.0) walk)
+  pub is : ending ≡ ends.Cycle (map (λ (s : SimNo). id_of_sim S.sims s.0) walk)
 
 -- the scenario has ranks, and the ending is that of its first simulator that can't be begun
 pub record IsUnprepared (kinds : List (List ℕ)) (S : Scenario) (ending : Ending) : Type 0 where

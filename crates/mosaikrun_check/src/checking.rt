@@ -2,21 +2,21 @@
 ghost use Rattle.std.specs.Prelude.{◌≡◌, ℕ, ◌<◌, ◌^◌, ◌⊎◌, List, Result, Ok, Err, IfOk, IfErr, OnOk, length, map};
 ghost use Rattle.mk_base.specs.declared.SimNo.{SimNo};
 ghost use Rattle.mk_launch.specs.Ready.{IsPrepared};
+ghost use Rattle.mk_scenario.specs.Ids.{id_of_sim};
 ghost use Rattle.mk_scenario.specs.Scenarios.{scenario_of};
 ghost use Rattle.mk_scenario.specs.Wellformed.{IsWellformed};
 ghost use Rattle.mosaikrun_check.specs.Checks.{IsChecked, IsOutcome, IsUnchecked, IsUnread};
 ghost use Rattle.mosaikrun_check.specs.Runnable.{IsRunnable, IsUnbegun, IsUnrunnable};
-ghost use Rattle.mosaikrun_check.specs.CheckText.{id_at};
 ghost use Rattle.mosaikrun_endings.specs.declared.ending.Ending.{Ending};
 ghost use Rattle.mosaikrun_endings.specs.declared.ending.Ending.TheVariants as ends;
 ghost use Rattle.mosaikrun_endings.specs.Endings.{outcome_status};
 
-use crate::text::{check_text, id_at};
+use crate::text::check_text;
 use mk_base::{List, Mem, SimNo, Text};
 use mk_connect::edges;
 use mk_cycles::{CycleFault, ranks};
 use mk_launch::{LaunchFault, Unready, prepare};
-use mk_scenario::{Scenario, ScenarioFault, read_scenario};
+use mk_scenario::{Scenario, ScenarioFault, id_of_sim, read_scenario};
 use mosaikrun_endings::Ending;
 use std::alloc::Global;
 
@@ -83,7 +83,10 @@ fn prepared(alloc: Global, scenario: &Scenario, kinds: &List<Text>) -> Result<()
             },
         ) => Err(Ending::Mem),
         Err(unready) => Err(Ending::Launch {
-            sim: Text::of(alloc, id_at(scenario, unready.sim.0 as usize))?,
+            sim: Text::of(
+                alloc,
+                id_of_sim(scenario.sims.as_slice(), unready.sim.0 as usize),
+            )?,
             fault: unready.fault,
         }),
     }
@@ -91,11 +94,13 @@ fn prepared(alloc: Global, scenario: &Scenario, kinds: &List<Text>) -> Result<()
 
 // The ids of these simulators, in this order.
 fn ids_of(alloc: Global, scenario: &Scenario, walk: &List<SimNo>) -> Result<List<Text>, Mem>
-    ensures { IfOk result (λ ids. ids ≡ map (λ (s : SimNo). id_at scenario.now s.0) walk.now) }
+    ensures { IfOk result (λ ids. ids
+        ≡ map (λ (s : SimNo). id_of_sim scenario.now.sims s.0) walk.now) }
 {
     let mut ids = List::new(alloc);
     for sim in walk.as_slice() {
-        ids.push(Text::of(alloc, id_at(scenario, sim.0 as usize))?)?;
+        let id = id_of_sim(scenario.sims.as_slice(), sim.0 as usize);
+        ids.push(Text::of(alloc, id)?)?;
     }
     Ok(ids)
 }

@@ -1,9 +1,9 @@
 //! The text that `check` prints.
 ghost use Rattle.std.specs.Prelude.{◌≡◌, ◌++◌, ◌==◌, ◌<◌, ◌^◌, length, position, IfOk, OnOk};
-ghost use Rattle.mosaikrun_check.specs.CheckText.{check_text, counted, id_at, ids_by_rank, sim_of_rank};
+ghost use Rattle.mosaikrun_check.specs.CheckText.{check_text, counted, ids_by_rank, sim_of_rank};
 
 use mk_base::Mem;
-use mk_scenario::Scenario;
+use mk_scenario::{Scenario, id_of_sim};
 use std::alloc::{AllocError, Global};
 
 // How many simulators, groups and blocks the scenario has, and its simulators' ids in rising rank.
@@ -33,7 +33,10 @@ fn put_order(
 {
     for rank in 0..count {
         put(out, " ")?;
-        put(out, id_at(scenario, sim_of_rank(ranks, rank)))?;
+        put(
+            out,
+            id_of_sim(scenario.sims.as_slice(), sim_of_rank(ranks, rank)),
+        )?;
     }
     Ok(())
 }
@@ -44,16 +47,6 @@ fn put_counted(alloc: Global, out: &mut Vec<u8>, word: &str, n: usize) -> Result
 {
     let line = format!(in alloc; "{word} {n}\n")?;
     put(out, line.as_str())
-}
-
-// The simulator's id; no text where there is none of this number.
-pub fn id_at(scenario: &Scenario, sim: usize) -> &str
-    ensures { result.now ≡ id_at scenario.now sim }
-{
-    match scenario.sims.get(sim) {
-        Some(part) => part.id.as_str(),
-        None => "",
-    }
 }
 
 // The simulator of this rank, by its number; 0 where none has it.
