@@ -5,6 +5,7 @@ use Rattle.mk_plan.specs.declared.Plan.{Plan}
 use Rattle.mk_plan.specs.declared.Journal.{Journal}
 use Rattle.mk_plan.specs.declared.Entry.{Entry}
 use Rattle.mk_plan.specs.Plans.{first_id, sim_count}
+use Rattle.mk_plan.specs.Sequential.{Messages}
 use Rattle.mk_outside.specs.Counts.{HasRisen}
 use Rattle.mk_outside.specs.declared.fleet.LogEntry.{LogEntry}
 use Rattle.mk_outside.specs.declared.fleet.LogEntry.TheVariants.{Told}
@@ -12,7 +13,6 @@ use Rattle.mk_setup.specs.Handshakes.{IsMade}
 use Rattle.mk_sched.specs.Cores.{CoreState}
 use Rattle.mk_run_laws.specs.Exchanges.{exchange}
 use Rattle.mk_run_laws.specs.Crews.{AreStopped, IsRestless}
-use Rattle.mk_run_laws.specs.Running.{SetupReplies}
 use Rattle.mk_run_links.specs.Entries.{AreOn}
 use Rattle.mk_run_links.specs.Places.{AreOpen, IsChannelLink}
 use Rattle.mk_run_crew.specs.Seen.{CrewSeen, crew_of}
@@ -97,7 +97,7 @@ plan_paces P C core W origin factor strict entries faults new_faults (Some Q) (S
       first = λ i lower. ap (λ (X : Plan). first_id X i) t.0 ∙ s.begun.first i (subst (λ (n : ℕ). i < n) s.begun.sims (subst (λ (X : Plan). i < sim_count X) t.0 lower));
       origin = origin;
       run = t.1;
-      told = λ i l linked. ap (λ (f : SetupReplies). f i) t.2 ∙ s.begun.told i l linked;
+      told = λ i l linked. ap (λ (f : Messages). f i) t.2 ∙ s.begun.told i l linked;
     }
 plan_paces P C core W origin factor strict entries faults new_faults (Some Q) None moments end core_is waiting_is g A before low s = absurd g
 plan_paces P C core W origin factor strict entries faults new_faults None J moments end core_is waiting_is g A before low s = absurd g

@@ -13,13 +13,13 @@ use Rattle.mk_plan.specs.declared.Item.TheVariants.{Step, GetData, Answer, Refus
 use Rattle.mk_plan.specs.declared.Message.{Message}
 use Rattle.mk_plan.specs.declared.Plan.{Plan}
 use Rattle.mk_plan.specs.Journals.{sent, got}
+use Rattle.mk_plan.specs.Sequential.{Messages}
 use Rattle.mk_scenario.specs.declared.parts.Scenario.{Scenario}
 use Rattle.mk_outside.specs.declared.fleet.LogEntry.{LogEntry}
 use Rattle.mk_outside.specs.declared.fleet.LogEntry.TheVariants.{NotHeard, Told, Nap}
 use Rattle.mk_outside.specs.Logs.{greatest_told, last_read, told_by}
 use Rattle.mk_run_laws.specs.Handshake.{setup_count, sim_link}
 use Rattle.mk_run_laws.specs.Rests.{SaysAll, all_frames, at_rest, heard_counts, run_messages, within}
-use Rattle.mk_run_laws.specs.Running.{SetupReplies}
 use Rattle.mk_run_laws.specs.inner.Running.{IsUnready}
 use Rattle.mk_run_laws.proofs.Resting.{parked_heard, parked_said, within_is}
 use Rattle.mk_pace_laws.specs.Clocks.{IsRising, last_told}
@@ -64,7 +64,7 @@ queued_are T now (item ∷ queued) waiting due early =
 
 -- ---- the journal at the sleep
 
-module _ (started : ℕ) (S : Scenario) (replies : SetupReplies) (counts : (i : ℕ) (l : LinkNo) → sim_link started S i ≡ Some l → length (replies i) ≡ setup_count S i) (P : Plan) (T : Tempo) (J : List Entry) (before : List LogEntry)
+module _ (started : ℕ) (S : Scenario) (replies : Messages) (counts : (i : ℕ) (l : LinkNo) → sim_link started S i ≡ Some l → length (replies i) ≡ setup_count S i) (P : Plan) (T : Tempo) (J : List Entry) (before : List LogEntry)
     (same : greatest_told before ≡ last_told before) (r : IsNapOf started S replies P T J before) where
   heard_of_link : (i : ℕ) (l : LinkNo) → sim_link started S i ≡ Some l → run_messages S before i l ≡ got r.at i
   heard_of_link i l linked = let t = r.channels i l linked in parked_heard started S replies counts P J before i l linked (got r.at i) t.queued t.channel t.link t.parked t.in_step

@@ -8,6 +8,7 @@ use Rattle.mk_plan.specs.declared.Item.{Item}
 use Rattle.mk_plan.specs.declared.Entry.{Entry}
 use Rattle.mk_plan.specs.Agreement.{Agrees}
 use Rattle.mk_plan.specs.Journals.{view}
+use Rattle.mk_plan.specs.Sequential.{Messages}
 use Rattle.mk_frame.specs.Frames.{IsTooLong}
 use Rattle.mk_outside.specs.Counts.{HasRisen}
 use Rattle.mk_outside.specs.declared.fleet.LogEntry.{LogEntry}
@@ -18,7 +19,6 @@ use Rattle.mk_scenario.specs.declared.parts.Scenario.{Scenario}
 use Rattle.mk_run_laws.specs.Exchanges.{Exchange}
 use Rattle.mk_run_laws.specs.Handshake.{setup_count, sim_link}
 use Rattle.mk_run_laws.specs.Hearing.{rest_heard}
-use Rattle.mk_run_laws.specs.Running.{SetupReplies}
 use Rattle.mk_run_laws.specs.Runs.{SaidWhole, SaysRight}
 use Rattle.mk_run.specs.declared.outcome.Outcome.TheVariants as outcome
 use Rattle.mk_run.specs.Ends.{IsMessageLeft, NeedsMore}
@@ -60,7 +60,7 @@ PacesAreRight = (X : Exchange) (P : Plan) (J : List Entry) (T : Timing) (faults 
 
 -- what stood at each sleep, said of the run's own journal
 abbrev pub NapsAreWell : Type 0
-NapsAreWell = (started : ℕ) (S : Scenario) (replies : SetupReplies)
+NapsAreWell = (started : ℕ) (S : Scenario) (replies : Messages)
     → ((i : ℕ) (l : LinkNo) → sim_link started S i ≡ Some l → length (replies i) ≡ setup_count S i)
     → (P : Plan) (T : Tempo) (J : List Entry) (log : List LogEntry)
     → IsRising log → AreNaps started S replies P T J log → NapsWell started S P T J log

@@ -13,11 +13,12 @@ use Rattle.mk_plan.specs.declared.Item.TheVariants.{Step}
 use Rattle.mk_plan.specs.declared.Plan.{Plan}
 use Rattle.mk_plan.specs.Journals.{sent, got, view}
 use Rattle.mk_plan.specs.Ready.{IsReady}
+use Rattle.mk_plan.specs.Sequential.{Messages}
 use Rattle.mk_scenario.specs.declared.parts.Scenario.{Scenario}
 use Rattle.mk_run_laws.specs.Handshake.{sim_link, is_within}
 use Rattle.mk_run_laws.specs.Channels.{Channel}
 use Rattle.mk_run_laws.specs.Rests.{SaysAll, all_frames, at_rest, run_messages}
-use Rattle.mk_run_laws.specs.Running.{BeginsOnLink, IsInStep, SetupReplies}
+use Rattle.mk_run_laws.specs.Running.{BeginsOnLink, IsInStep}
 use Rattle.mk_pace_laws.specs.Clocks.{HasTold, last_told}
 use Rattle.mk_pace_laws.specs.Moments.{Tempo, moment_at, not_early}
 
@@ -72,7 +73,7 @@ AreTold T log items = (first later : List Item) (x : Tier) (inputs : List Input)
 
 -- of the journal's items to simulator i these were queued on its link, which was parked, the moment
 -- of each Step among them having been told, and what waits was early
-pub record IsChannelAtNap (S : Scenario) (replies : SetupReplies) (T : Tempo) (at : List Entry)
+pub record IsChannelAtNap (S : Scenario) (replies : Messages) (T : Tempo) (at : List Entry)
     (before : List LogEntry) (i : ℕ) (l : LinkNo) : Type 0 where
   pub channel : Channel
   pub link : channel.link ≡ l
@@ -87,7 +88,7 @@ pub record IsChannelAtNap (S : Scenario) (replies : SetupReplies) (T : Tempo) (a
 -- when the fleet slept behind these entries, the journal was a beginning of J, nobody was ready,
 -- each channel was parked, in step with that journal but for what waits, and the journal got a
 -- message of a link next, if anything
-pub record IsNapOf (started : ℕ) (S : Scenario) (replies : SetupReplies) (P : Plan) (T : Tempo)
+pub record IsNapOf (started : ℕ) (S : Scenario) (replies : Messages) (P : Plan) (T : Tempo)
     (J : List Entry) (before : List LogEntry) : Type 0 where
   pub at : List Entry
   pub more : List Entry
@@ -98,7 +99,7 @@ pub record IsNapOf (started : ℕ) (S : Scenario) (replies : SetupReplies) (P : 
   pub next : (more ≡ []) ⊎ BeginsOnLink started S more
 
 -- at each sleep
-abbrev pub AreNaps : ℕ → Scenario → SetupReplies → Plan → Tempo → List Entry → List LogEntry
+abbrev pub AreNaps : ℕ → Scenario → Messages → Plan → Tempo → List Entry → List LogEntry
     → Type 0
 AreNaps started S replies P T J log = (before after : List LogEntry) → log ≡ before ++ Nap ∷ after
     → IsNapOf started S replies P T J before

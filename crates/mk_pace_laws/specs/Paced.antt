@@ -10,7 +10,7 @@ use Rattle.mk_plan.specs.declared.Entry.{Entry}
 use Rattle.mk_plan.specs.Plans.{IsValidPlan, first_id, sim_count}
 use Rattle.mk_plan.specs.Journals.{got, view}
 use Rattle.mk_plan.specs.Orderly.{IsEager}
-use Rattle.mk_plan.specs.Sequential.{takes_id}
+use Rattle.mk_plan.specs.Sequential.{Messages, takes_id}
 use Rattle.mk_outside.specs.Counts.{HasRisen}
 use Rattle.mk_outside.specs.declared.fleet.LogEntry.{LogEntry}
 use Rattle.mk_outside.specs.declared.fleet.LogEntry.TheVariants.{Nap, Rest, Told}
@@ -20,7 +20,6 @@ use Rattle.mk_run_laws.specs.Exchanges.{Exchange}
 use Rattle.mk_run_laws.specs.Handshake.{is_within, setup_count, setup_requests, sim_link}
 use Rattle.mk_run_laws.specs.Laws.{IsJournalOf}
 use Rattle.mk_run_laws.specs.Rests.{AllSetUp, IsWellInSetup}
-use Rattle.mk_run_laws.specs.Running.{SetupReplies}
 use Rattle.mk_run_laws.specs.Runs.{IsLinkOfRun}
 use Rattle.mk_setup.specs.Handshakes.{IsMade}
 use Rattle.mk_run_links.specs.Entries.{AreOnOrOfClock, IsRunLink}
@@ -53,7 +52,7 @@ pub record IsOrigin (started : ℕ) (S : Scenario) (log : List LogEntry) (origin
 
 -- what is said on a link: of the journal's items those before the first Step that was never sent,
 -- and no Step before its moment was told
-pub record IsPacedLink (X : Exchange) (replies : SetupReplies) (J : List Entry) (T : Timing)
+pub record IsPacedLink (X : Exchange) (replies : Messages) (J : List Entry) (T : Timing)
     (risen : Type 0) (end : PaceEnd) (i : ℕ) (l : LinkNo) : Type 0 where
   pub items : List Item
   pub run : IsLinkOfRun X.scenario replies J X.log risen i l items
@@ -69,7 +68,7 @@ pub record IsPacedLink (X : Exchange) (replies : SetupReplies) (J : List Entry) 
 -- or written
 pub record IsPaced (X : Exchange) (P : Plan) (J : List Entry) (T : Timing)
     (faults new_faults : ℕ) (end : PaceEnd) : Type 0 where
-  pub replies : SetupReplies
+  pub replies : Messages
   pub valid : IsValidPlan P
   pub journal : IsJournalOf X P J
   pub eager : IsEager P J

@@ -13,11 +13,12 @@ use Rattle.mk_plan.specs.declared.Message.{Message}
 use Rattle.mk_plan.specs.declared.Plan.{Plan}
 use Rattle.mk_plan.specs.Journals.{OpenTurn, View, bare, open_after, sent, view, with_open}
 use Rattle.mk_plan.specs.Ready.{IsReady}
+use Rattle.mk_plan.specs.Sequential.{Messages}
 use Rattle.mk_order.proofs.Pushing.{view_push}
 use Rattle.mk_outside.specs.declared.fleet.LogEntry.{LogEntry}
 use Rattle.mk_scenario.specs.declared.parts.Scenario.{Scenario}
 use Rattle.mk_run_laws.specs.Handshake.{is_within}
-use Rattle.mk_run_laws.specs.Running.{BeginsOnLink, SetupReplies}
+use Rattle.mk_run_laws.specs.Running.{BeginsOnLink}
 use Rattle.mk_run_laws.proofs.Stepping.{open_got, open_sent, sent_away, sent_got}
 use Rattle.mk_run.specs.inner.Underway.{Setting, reply_in}
 use Rattle.mk_pace_held.specs.declared.held.Due.{Due}
@@ -142,7 +143,7 @@ module _ (S : Setting) (P : Plan) where
 
 -- ---- naps
 
-module _ (started : ℕ) (S : Scenario) (replies : SetupReplies) (P : Plan) (T : Tempo) (J : List Entry) (log : List LogEntry) (naps : AreNaps started S replies P T J log) where
+module _ (started : ℕ) (S : Scenario) (replies : Messages) (P : Plan) (T : Tempo) (J : List Entry) (log : List LogEntry) (naps : AreNaps started S replies P T J log) where
   -- the journal goes on with these entries, which begin with a link's message, or somebody is ready
   -- in it
   pub naps_longer : (later : List Entry) → (((i : ℕ) (x : Tier) → IsReady P (view P J) i x → ⊥) → BeginsOnLink started S later) → AreNaps started S replies P T (J ++ later) log

@@ -10,6 +10,7 @@ use Rattle.mk_plan.specs.declared.Plan.{Plan}
 use Rattle.mk_plan.specs.Journals.{Arrival, got, view}
 use Rattle.mk_plan.specs.Plans.{sim_count}
 use Rattle.mk_plan.specs.Ready.{IsReady}
+use Rattle.mk_plan.specs.Sequential.{Messages}
 use Rattle.mk_scenario.specs.declared.parts.SimPart.{SimPart}
 use Rattle.mk_scenario.specs.declared.parts.Scenario.{Scenario}
 use Rattle.mk_outside.specs.declared.fleet.LogEntry.{LogEntry}
@@ -20,7 +21,6 @@ use Rattle.mk_run_laws.specs.Crews.{CrewState, AreMoved, IsMovedAt, IsRestless, 
 use Rattle.mk_run_laws.specs.Handshake.{has_link, sim_link}
 use Rattle.mk_run_laws.specs.Channels.{Channel}
 use Rattle.mk_run_laws.specs.Rests.{AllSetUp, IsWellInSetup}
-use Rattle.mk_run_laws.specs.Running.{SetupReplies}
 use Rattle.mk_run_laws.specs.inner.Running.{HasChannel}
 use Rattle.mk_run_laws.proofs.Stepping.{first_or_second}
 use Rattle.mk_run_laws.proofs.Moving.{moved_none}
@@ -86,7 +86,7 @@ setup_later started S log entries restless rests before after is = elim (first_o
 ]
 
 -- no nap is taken by these entries
-pub naps_later : (started : ℕ) (S : Scenario) (replies : SetupReplies) (P : Plan) (T : Tempo) (J : List Entry) (log entries : List LogEntry) → ((less after : List LogEntry) → entries ≡ less ++ Nap ∷ after → ⊥) → AreNaps started S replies P T J log → AreNaps started S replies P T J (log ++ entries)
+pub naps_later : (started : ℕ) (S : Scenario) (replies : Messages) (P : Plan) (T : Tempo) (J : List Entry) (log entries : List LogEntry) → ((less after : List LogEntry) → entries ≡ less ++ Nap ∷ after → ⊥) → AreNaps started S replies P T J log → AreNaps started S replies P T J (log ++ entries)
 naps_later started S replies P T J log entries awake naps before after is = elim (first_or_second log entries before after Nap is) [
   | inl t ↦ naps before t.0 t.1
   | inr t ↦ absurd (awake t.0 after t.2)

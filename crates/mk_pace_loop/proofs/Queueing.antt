@@ -5,7 +5,7 @@ use Rattle.mk_base.specs.declared.LinkNo.{LinkNo}
 use Rattle.mk_base.proofs.Lists.{some_same}
 use Rattle.mk_plan.specs.declared.Item.{Item}
 use Rattle.mk_plan.specs.declared.Message.{Message}
-use Rattle.mk_plan.specs.Sequential.{takes_id, id_after}
+use Rattle.mk_plan.specs.Sequential.{Messages, takes_id, id_after}
 use Rattle.mk_message.specs.Written.{item_text}
 use Rattle.mk_scenario.specs.declared.parts.Scenario.{Scenario}
 use Rattle.mk_outside.specs.declared.fleet.LogEntry.{LogEntry}
@@ -14,7 +14,6 @@ use Rattle.mk_run_laws.specs.Crews.{CrewState, AreMoved, IsMovedAt, IsSentOnLink
 use Rattle.mk_run_laws.specs.Handshake.{setup_count, setup_payloads}
 use Rattle.mk_run_laws.specs.Channels.{IsChannelAt, Channel, queued}
 use Rattle.mk_run_laws.specs.Payloads.{item_payloads}
-use Rattle.mk_run_laws.specs.Running.{SetupReplies}
 use Rattle.mk_run_laws.specs.inner.Running.{HasChannel}
 use Rattle.mk_run_laws.proofs.Moving.{channel_moved, channel_queued, moved_there}
 use Rattle.mk_run_laws.proofs.Polling.{IsForeign, channel_left}
@@ -43,7 +42,7 @@ nap_moved C i = left_at (Nap ∷ []) foreign_nap (channel_at C i)
 -- ---- a channel that has moved
 
 -- whatever items were queued on it
-pub has_channel_moved : (S : Scenario) (replies : SetupReplies) (log entries : List LogEntry) (i : ℕ) (l : LinkNo) (ms given : List Message) (items : List Item) (C D : CrewState) → HasChannel S replies log i l ms items C → IsMovedAt entries given (channel_at C i) (channel_at D i)
+pub has_channel_moved : (S : Scenario) (replies : Messages) (log entries : List LogEntry) (i : ℕ) (l : LinkNo) (ms given : List Message) (items : List Item) (C D : CrewState) → HasChannel S replies log i l ms items C → IsMovedAt entries given (channel_at C i) (channel_at D i)
     → HasChannel S replies (log ++ entries) i l (ms ++ given) items D
 has_channel_moved S replies log entries i l ms given items C D h moved =
     let m = moved_there entries given (channel_at C i) (channel_at D i) h.channel h.there moved in
@@ -59,7 +58,7 @@ has_channel_moved S replies log entries i l ms given items C D h moved =
 -- ---- an item that is queued
 
 -- the channel is in step with any messages and items, and then with one item more
-pub channel_sent : (S : Scenario) (replies : SetupReplies) (log : List LogEntry) (C D : CrewState) (s : ℕ) (l : LinkNo) (messages : List Message) (items : List Item) (item : Item) (id : ℕ) → HasChannel S replies log s l messages items C → IsSentOnLink s item id C D
+pub channel_sent : (S : Scenario) (replies : Messages) (log : List LogEntry) (C D : CrewState) (s : ℕ) (l : LinkNo) (messages : List Message) (items : List Item) (item : Item) (id : ℕ) → HasChannel S replies log s l messages items C → IsSentOnLink s item id C D
     → ((w : Channel) → channel_at C s ≡ Some w → takes_id item ≡ true → id ≡ w.next) → HasChannel S replies log s l messages (items ++ item ∷ []) D
 channel_sent S replies log C D s l messages items item id h sent_so right =
     let same : h.channel ≡ sent_so.channel = some_same (sym h.there ∙ sent_so.there) in

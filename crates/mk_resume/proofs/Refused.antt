@@ -5,6 +5,7 @@ use Rattle.mk_base.specs.declared.LinkNo.{LinkNo}
 use Rattle.mk_plan.specs.declared.Plan.{Plan}
 use Rattle.mk_plan.specs.declared.Journal.{Journal}
 use Rattle.mk_plan.specs.Plans.{first_id, sim_count}
+use Rattle.mk_plan.specs.Sequential.{Messages}
 use Rattle.mk_outside.specs.Counts.{HasRisen}
 use Rattle.mk_outside.specs.declared.fleet.LogEntry.{LogEntry}
 use Rattle.mk_outside.specs.declared.fleet.LogEntry.TheVariants.{Rest}
@@ -17,7 +18,6 @@ use Rattle.mk_sched.specs.Cores.{CoreState}
 use Rattle.mk_run_crew.specs.Attempts.{Attempt, attempt, longer}
 use Rattle.mk_setup.specs.Handshakes.{IsMade}
 use Rattle.mk_run_laws.specs.Handshake.{setup_requests, sim_link}
-use Rattle.mk_run_laws.specs.Running.{SetupReplies}
 use Rattle.mk_run_laws.specs.Crews.{AreStopped, IsRestless}
 use Rattle.mk_run_laws.specs.Runs.{IsLinkOfRun}
 use Rattle.mk_run_laws.proofs.Clauses.{handshake_says}
@@ -90,7 +90,7 @@ plan_goes_on P saved C core entries f0 f2 (Some Q) (Some J) end plans on known r
       plans = subst (λ (X : Plan). IsFirstOther X saved.plan None) (sym same) plans;
       first = λ i lower. ap (λ (X : Plan). first_id X i) same ∙ b.first i (subst (λ (n : ℕ). i < n) b.sims (subst (λ (X : Plan). i < sim_count X) same lower));
       run = t.1;
-      told = λ i l linked. ap (λ (f : SetupReplies). f i) t.2 ∙ b.told i l linked;
+      told = λ i l linked. ap (λ (f : Messages). f i) t.2 ∙ b.told i l linked;
     }
 plan_goes_on P saved C core entries f0 f2 (Some Q) None end plans on known r A before low s = absurd r
 plan_goes_on P saved C core entries f0 f2 None J end plans on known r A before low s = absurd r

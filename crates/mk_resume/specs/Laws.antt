@@ -31,7 +31,6 @@ use Rattle.mk_run_laws.specs.Exchanges.{Exchange}
 use Rattle.mk_run_laws.specs.Hearing.{messages_heard, rest_heard}
 use Rattle.mk_run_laws.specs.Handshake.{setup_count, setup_requests, sim_link}
 use Rattle.mk_run_laws.specs.Payloads.{AreFramed, link_payloads}
-use Rattle.mk_run_laws.specs.Running.{SetupReplies}
 use Rattle.mk_run_laws.specs.Runs.{IsLinkOfRun, SaidWhole, run_frames}
 use Rattle.mk_run_links.specs.Entries.{AreOn, IsRunLink}
 use Rattle.mk_run_laws.specs.Laws.{IsJournalOf}
@@ -71,7 +70,7 @@ ResumedRunsSayRight = (X : Exchange) (P : Plan) (saved : Saved) (J : List Entry)
 
 -- what holds of a run at whose end nothing is left to do, but for its rests behind the handshake
 pub record IsDoneRun (X : Exchange) (P : Plan) (J : List Entry) (risen : Type 0) : Type 0 where
-  pub replies : SetupReplies
+  pub replies : Messages
   pub valid : IsValidPlan P
   pub journal : IsJournalOf X P J
   pub eager : IsEager P J

@@ -13,6 +13,7 @@ use Rattle.mk_plan.specs.Journals.{view, got, bare}
 use Rattle.mk_plan.specs.Ready.{IsDone}
 use Rattle.mk_plan.specs.Orderly.{IsEager}
 use Rattle.mk_plan.specs.Agreement.{Agrees}
+use Rattle.mk_plan.specs.Sequential.{Messages}
 use Rattle.mk_frame.specs.Frames.{IsTooLong}
 use Rattle.mk_scenario.specs.declared.parts.Scenario.{Scenario}
 use Rattle.mk_outside.specs.Counts.{HasRisen}
@@ -34,7 +35,6 @@ use Rattle.mk_run_laws.specs.Hearing.{messages_heard, rest_heard}
 use Rattle.mk_run_laws.specs.Handshake.{setup_count, setup_requests, sim_link, is_within}
 use Rattle.mk_run_laws.specs.Kinds.{Replies}
 use Rattle.mk_run_laws.specs.Rests.{run_messages, AllSetUp, IsWellInSetup}
-use Rattle.mk_run_laws.specs.Running.{SetupReplies}
 use Rattle.mk_run_laws.specs.Runs.{SaidWhole, SaysRight}
 use Rattle.mk_run_links.specs.Entries.{AreOn, IsRunLink}
 use Rattle.mk_run_crew.specs.Answers.{AreKindAnswers, answers_to}
@@ -117,7 +117,7 @@ ShownBy X P first J heard faults new_faults
 -- names, and no link but the run's was read or written
 pub record IsResumed (X : Exchange) (P : Plan) (saved : Saved) (J : List Entry)
     (faults new_faults : ℕ) (end : ResumeEnd) : Type 0 where
-  pub replies : SetupReplies
+  pub replies : Messages
   pub valid : IsValidPlan P
   pub sims : sim_count P ≡ length X.scenario.sims
   pub first : List Entry
@@ -165,7 +165,7 @@ pub record HasRefused (A : Attempt) (P : Plan) (risen : Type 0) : Type 0 where
   pub answers : List Message
   pub made : IsMade A.scenario A.ranks answers P
   pub kinds : AreKindAnswers A.rows A.scenario answers
-  pub replies : SetupReplies
+  pub replies : Messages
   pub replied : (i : ℕ) (l : LinkNo) → sim_link A.started A.scenario i ≡ Some l
       → take (setup_count A.scenario i) (messages_heard (heard_on l A.log)) ≡ replies i
   pub told : (i : ℕ) (l : LinkNo) → sim_link A.started A.scenario i ≡ Some l

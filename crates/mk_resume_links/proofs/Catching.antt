@@ -12,14 +12,14 @@ use Rattle.mk_plan.specs.declared.Entry.{Entry}
 use Rattle.mk_plan.specs.declared.Entry.TheVariants.{Sent, Got}
 use Rattle.mk_plan.specs.Journals.{Arrival, bare, got, view}
 use Rattle.mk_plan.specs.Ready.{IsReady}
-use Rattle.mk_plan.specs.Sequential.{takes_id}
+use Rattle.mk_plan.specs.Sequential.{Messages, takes_id}
 use Rattle.mk_scenario.specs.declared.parts.Scenario.{Scenario}
 use Rattle.mk_outside.specs.declared.fleet.LogEntry.{LogEntry}
 use Rattle.mk_run_laws.specs.Handshake.{is_within, sim_link}
 use Rattle.mk_run_laws.specs.Channels.{Channel}
 use Rattle.mk_run_laws.specs.Kinds.{Replies}
 use Rattle.mk_run_laws.specs.Crews.{CrewState, channel_at, kept_of, given_by, AreMoved, AreParkedAtRests, IsSentOnLink, IsSentWithin, IsUnheard}
-use Rattle.mk_run_laws.specs.Running.{SetupReplies, IsBegun}
+use Rattle.mk_run_laws.specs.Running.{IsBegun}
 use Rattle.mk_run_laws.proofs.Stepping.{got_here, got_away, linked_out, given_here, given_away}
 use Rattle.mk_resume_walk.specs.Talks.{free_items}
 use Rattle.mk_resume_links.specs.Rests.{Counts, repeated}
@@ -52,7 +52,7 @@ more_here heard s = ap (λ (b : Bool). if b then heard s + 1 else heard s) (same
 pub more_away : (heard : Counts) (s i : ℕ) → (i ≡ s → ⊥) → one_more heard s i ≡ heard i
 more_away heard s i apart = ap (λ (b : Bool). if b then heard i + 1 else heard i) (not_same i s apart)
 
-module _ (saved : Counts) (started : ℕ) (S : Scenario) (replies : SetupReplies) (reply : Replies) (P : Plan) where
+module _ (saved : Counts) (started : ℕ) (S : Scenario) (replies : Messages) (reply : Replies) (P : Plan) where
   abbrev With : (ℕ → List Item) → (ℕ → List Message) → List Entry → Counts → List LogEntry → CrewState → Type 0
   With X A J heard log C = IsCatchingWith X A saved (exchange started S reply log) replies P J heard C
 

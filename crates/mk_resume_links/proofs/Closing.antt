@@ -12,14 +12,13 @@ use Rattle.mk_plan.specs.declared.Entry.{Entry}
 use Rattle.mk_plan.specs.declared.Entry.TheVariants.{Sent, Got}
 use Rattle.mk_plan.specs.Journals.{bare, got, view}
 use Rattle.mk_plan.specs.Ready.{IsReady}
-use Rattle.mk_plan.specs.Sequential.{takes_id}
+use Rattle.mk_plan.specs.Sequential.{Messages, takes_id}
 use Rattle.mk_scenario.specs.declared.parts.Scenario.{Scenario}
 use Rattle.mk_outside.specs.declared.fleet.LogEntry.{LogEntry}
 use Rattle.mk_run_laws.specs.Handshake.{is_within, sim_link}
 use Rattle.mk_run_laws.specs.Channels.{Channel}
 use Rattle.mk_run_laws.specs.Kinds.{Replies}
 use Rattle.mk_run_laws.specs.Crews.{CrewState, channel_at, kept_of, given_by, IsSentOnLink, IsSentWithin}
-use Rattle.mk_run_laws.specs.Running.{SetupReplies}
 use Rattle.mk_run_laws.proofs.Stepping.{got_here, linked_out, given_here, given_away}
 use Rattle.mk_resume_walk.specs.Talks.{free_items}
 use Rattle.mk_resume_links.specs.Rests.{Counts, repeated}
@@ -40,7 +39,7 @@ long_push xs x n is = let e = length-append xs (x ∷ []) in omega (arith, e, is
 one_behind : (k n m : ℕ) → m ≡ n + 1 → k ≡ n → k + 1 ≤ m
 one_behind k n m more is = omega (arith, more, is)
 
-module _ (saved : Counts) (started : ℕ) (S : Scenario) (replies : SetupReplies) (reply : Replies) (P : Plan) where
+module _ (saved : Counts) (started : ℕ) (S : Scenario) (replies : Messages) (reply : Replies) (P : Plan) where
   abbrev With : (ℕ → List Item) → (ℕ → List Message) → List Entry → Counts → List LogEntry → CrewState → Type 0
   With X A J heard log C = IsCatchingWith X A saved (exchange started S reply log) replies P J heard C
 

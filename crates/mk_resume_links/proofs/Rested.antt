@@ -10,13 +10,14 @@ use Rattle.mk_plan.specs.declared.Entry.{Entry}
 use Rattle.mk_plan.specs.declared.Entry.TheVariants.{Got}
 use Rattle.mk_plan.specs.Journals.{view, got}
 use Rattle.mk_plan.specs.Ready.{IsReady}
+use Rattle.mk_plan.specs.Sequential.{Messages}
 use Rattle.mk_scenario.specs.declared.parts.Scenario.{Scenario}
 use Rattle.mk_outside.specs.declared.fleet.LogEntry.{LogEntry}
 use Rattle.mk_outside.specs.declared.fleet.LogEntry.TheVariants.{NotHeard}
 use Rattle.mk_outside.specs.Logs.{last_read}
 use Rattle.mk_run_laws.specs.Handshake.{setup_count, sim_link}
 use Rattle.mk_run_laws.specs.Rests.{within, run_messages, all_frames, SaysAll}
-use Rattle.mk_run_laws.specs.Running.{SetupReplies, BeginsOnLink}
+use Rattle.mk_run_laws.specs.Running.{BeginsOnLink}
 use Rattle.mk_run_laws.proofs.Resting.{parked_heard, parked_said, within_is}
 use Rattle.mk_resume_walk.specs.Talks.{free_items}
 use Rattle.mk_resume_walk.proofs.GoingOn.{take_counted}
@@ -28,7 +29,7 @@ begins_take zero xs = (xs, refl)
 begins_take (suc n) [] = ([], refl)
 begins_take (suc n) (x ∷ xs) = let t = begins_take n xs in (t.0, ap (λ (l : List Message). x ∷ l) t.1)
 
-module _ (saved : Counts) (started : ℕ) (S : Scenario) (replies : SetupReplies) (counts : (i : ℕ) (l : LinkNo) → sim_link started S i ≡ Some l → length (replies i) ≡ setup_count S i) (P : Plan) (J : List Entry) (before : List LogEntry) where
+module _ (saved : Counts) (started : ℕ) (S : Scenario) (replies : Messages) (counts : (i : ℕ) (l : LinkNo) → sim_link started S i ≡ Some l → length (replies i) ≡ setup_count S i) (P : Plan) (J : List Entry) (before : List LogEntry) where
   module _ (r : IsRestOf saved started S replies P J before) (next : (r.more ≡ []) ⊎ BeginsOnLink started S r.more) where
     heard_of_link : (i : ℕ) (l : LinkNo) → sim_link started S i ≡ Some l → run_messages S before i l ≡ repeated r.at i (r.heard i)
     heard_of_link i l linked = let t = r.channel i l linked in parked_heard started S replies counts P J before i l linked (repeated r.at i (r.heard i)) (free_items r.at i (r.heard i)) t.0 t.1 t.2 t.3
@@ -70,6 +71,6 @@ module _ (saved : Counts) (started : ℕ) (S : Scenario) (replies : SetupReplies
     }
 
 -- so each rest of a resumed run is one
-pub rests_well : (saved : Counts) (started : ℕ) (S : Scenario) (replies : SetupReplies) (counts : (i : ℕ) (l : LinkNo) → sim_link started S i ≡ Some l → length (replies i) ≡ setup_count S i) (P : Plan) (J : List Entry) (log : List LogEntry)
+pub rests_well : (saved : Counts) (started : ℕ) (S : Scenario) (replies : Messages) (counts : (i : ℕ) (l : LinkNo) → sim_link started S i ≡ Some l → length (replies i) ≡ setup_count S i) (P : Plan) (J : List Entry) (log : List LogEntry)
     → RestsEnd saved started S replies P J log → RestsWell saved started S P J log
 rests_well saved started S replies counts P J log rests before after is up = let t = rests before after is up in well_at_rest saved started S replies counts P J before t.0 t.1

@@ -7,7 +7,7 @@ use Rattle.mk_base.proofs.Lists.{append_nil, some_same, filter_map_append}
 use Rattle.mk_plan.specs.declared.Item.{Item}
 use Rattle.mk_plan.specs.declared.Message.{Message}
 use Rattle.mk_plan.specs.Journals.{Arrival}
-use Rattle.mk_plan.specs.Sequential.{takes_id, id_after}
+use Rattle.mk_plan.specs.Sequential.{Messages, takes_id, id_after}
 use Rattle.mk_message.specs.Written.{item_text}
 use Rattle.mk_scenario.specs.declared.parts.Scenario.{Scenario}
 use Rattle.mk_outside.specs.declared.fleet.LogEntry.{LogEntry}
@@ -15,7 +15,7 @@ use Rattle.mk_run_laws.specs.Handshake.{is_within, sim_link, setup_count, setup_
 use Rattle.mk_run_laws.specs.Payloads.{item_payloads}
 use Rattle.mk_run_laws.specs.Channels.{Channel, IsChannelAt, queued}
 use Rattle.mk_run_laws.specs.Crews.{CrewState, channel_at, kept_from, kept_of, given_by, AreMoved, IsSentOnLink, IsSentWithin}
-use Rattle.mk_run_laws.specs.Running.{SetupReplies, IsInStep, IsBegun}
+use Rattle.mk_run_laws.specs.Running.{IsInStep, IsBegun}
 use Rattle.mk_run_laws.specs.inner.Running.{HasChannel}
 use Rattle.mk_run_laws.proofs.Moving.{channel_moved, channel_queued, moved_there, moved_none}
 use Rattle.mk_run_laws.proofs.Stepping.{items_push, ids_push, text_same, linked_out}
@@ -39,7 +39,7 @@ channel_in l i = option_and_then (λ (o : Option Channel). o) (slice_get l i)
 same_channel : (C D : CrewState) (i : ℕ) → D.channels ≡ C.channels → channel_at D i ≡ channel_at C i
 same_channel C D i e = ap (λ (l : List (Option Channel)). option_and_then (λ (o : Option Channel). o) (slice_get l i)) e
 
-module _ (started : ℕ) (S : Scenario) (replies : SetupReplies) where
+module _ (started : ℕ) (S : Scenario) (replies : Messages) where
   -- one channel, by other names of its messages and items
   channel_as : (log : List LogEntry) (i : ℕ) (l : LinkNo) (ms ns : List Message) (xs ys : List Item) (C D : CrewState) → ms ≡ ns → xs ≡ ys → channel_at D i ≡ channel_at C i → HasChannel S replies log i l ms xs C → HasChannel S replies log i l ns ys D
   channel_as log i l ms ns xs ys C D m x same h = record {

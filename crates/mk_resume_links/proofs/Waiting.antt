@@ -10,7 +10,7 @@ use Rattle.mk_plan.specs.declared.Entry.{Entry}
 use Rattle.mk_plan.specs.declared.Entry.TheVariants.{Got}
 use Rattle.mk_plan.specs.Journals.{Arrival, view, got}
 use Rattle.mk_plan.specs.Ready.{IsReady}
-use Rattle.mk_plan.specs.Sequential.{id_after}
+use Rattle.mk_plan.specs.Sequential.{Messages, id_after}
 use Rattle.mk_scenario.specs.declared.parts.Scenario.{Scenario}
 use Rattle.mk_outside.specs.declared.fleet.LogEntry.{LogEntry}
 use Rattle.mk_outside.specs.declared.fleet.LogEntry.TheVariants.{Rest}
@@ -18,7 +18,7 @@ use Rattle.mk_run_laws.specs.Handshake.{sim_link, setup_count, setup_payloads}
 use Rattle.mk_run_laws.specs.Payloads.{item_payloads}
 use Rattle.mk_run_laws.specs.Channels.{IsChannelAt}
 use Rattle.mk_run_laws.specs.Crews.{CrewState, AreParkedAtRests, IsRestless}
-use Rattle.mk_run_laws.specs.Running.{SetupReplies, BeginsOnLink, IsBegun}
+use Rattle.mk_run_laws.specs.Running.{BeginsOnLink, IsBegun}
 use Rattle.mk_run_laws.proofs.Moving.{channel_moved}
 use Rattle.mk_run_laws.proofs.Stepping.{first_or_second, begins_longer}
 use Rattle.mk_resume_walk.specs.Talks.{free_items}
@@ -26,7 +26,7 @@ use Rattle.mk_resume_links.specs.Rests.{Counts, repeated}
 use Rattle.mk_resume_links.specs.Running.{IsRestOf, RestsEnd}
 use Rattle.mk_resume_links.specs.inner.Touching.{IsInTouch, IsResting, RestsOver, RestsSoFar}
 
-module _ (saved : Counts) (started : ℕ) (S : Scenario) (replies : SetupReplies) (P : Plan) where
+module _ (saved : Counts) (started : ℕ) (S : Scenario) (replies : Messages) (P : Plan) where
   -- ---- the journal goes on
 
   abbrev rest_longer : (J : List Entry) (e : Entry) (before : List LogEntry) (r : IsRestOf saved started S replies P J before) → IsRestOf saved started S replies P (J ++ e ∷ []) before

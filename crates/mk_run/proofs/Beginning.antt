@@ -11,10 +11,9 @@ use Rattle.mk_run_links.specs.Entries.{AreOn, IsRunLink}
 use Rattle.mk_run_links.specs.Places.{AreOpen, IsChannelLink}
 use Rattle.mk_run_links.proofs.OnEntries.{on_more, on_or_clock, on_run}
 use Rattle.mk_setup.specs.Handshakes.{IsMade}
-use Rattle.mk_run_laws.specs.Running.{SetupReplies}
 use Rattle.mk_plan.specs.declared.Entry.TheVariants.{Got}
 use Rattle.mk_plan.specs.Plans.{IsValidPlan, sim_count, first_id}
-use Rattle.mk_plan.specs.Sequential.{run_items}
+use Rattle.mk_plan.specs.Sequential.{Messages, run_items}
 use Rattle.mk_outside.specs.declared.fleet.LogEntry.{LogEntry}
 use Rattle.mk_outside.specs.declared.fleet.LogEntry.TheVariants.{Rest}
 use Rattle.mk_scenario.specs.declared.parts.Scenario.{Scenario}
@@ -103,7 +102,7 @@ module _ (started : ℕ) (S : Scenario) (ranks : List ℕ) (rows : List Turn) (l
   pub runs_so : IsPrepared S (map name_of rows) → (more : List LogEntry) (f0 f1 f2 : ℕ) → f0 ≤ f1 → (Q : Option Plan) (J : Option Journal) (end : Outcome) → PlanRunsAs P C more f1 f2 Q J end → RunsAs (attempt started S ranks rows (log ++ more)) Q J f0 f2 end
   runs_so prepared more f0 f1 f2 low (Some Q) (Some J) end r =
       let t = r setting_of log f0 low (run_begins prepared) in
-      record { answers = b.answers; made = subst (IsMade S ranks b.answers) (sym t.0) b.made; kinds = b.kinds; first = λ i lower. run_first Q t.0 i lower; run = t.1; told = λ i l linked. ap (λ (f : SetupReplies). f i) t.2 ∙ b.told i l linked }
+      record { answers = b.answers; made = subst (IsMade S ranks b.answers) (sym t.0) b.made; kinds = b.kinds; first = λ i lower. run_first Q t.0 i lower; run = t.1; told = λ i l linked. ap (λ (f : Messages). f i) t.2 ∙ b.told i l linked }
   runs_so prepared more f0 f1 f2 low (Some Q) None end r = absurd r
   runs_so prepared more f0 f1 f2 low None (Some J) end r = absurd r
   runs_so prepared more f0 f1 f2 low None None end r = record { halt = halt.Mem; is = r.0; halted = run_halts more (HasRisen f1 f2) (HasRisen f0 f2) (risen_after f0 f1 f2 low) r.1 r.2 r.3 }

@@ -11,6 +11,7 @@ use Rattle.mk_plan.specs.declared.Message.{Message}
 use Rattle.mk_plan.specs.declared.Entry.{Entry}
 use Rattle.mk_plan.specs.declared.Entry.TheVariants.{Got}
 use Rattle.mk_plan.specs.Journals.{sent, got}
+use Rattle.mk_plan.specs.Sequential.{Messages}
 use Rattle.mk_scenario.specs.declared.parts.Scenario.{Scenario}
 use Rattle.mk_outside.specs.declared.fleet.LogEntry.{LogEntry}
 use Rattle.mk_outside.specs.Logs.{heard_on}
@@ -19,7 +20,6 @@ use Rattle.mk_run_laws.specs.Hearing.{first_message, rest_heard}
 use Rattle.mk_run_laws.specs.Handshake.{setup_count, sim_link}
 use Rattle.mk_run_laws.specs.Crews.{CrewState, AreStopped}
 use Rattle.mk_run_laws.specs.Rests.{run_messages}
-use Rattle.mk_run_laws.specs.Running.{SetupReplies}
 use Rattle.mk_run_laws.specs.inner.Running.{HasChannel}
 use Rattle.mk_run_laws.proofs.Ending.{link_ended, all_given, rest_held}
 use Rattle.mk_run_laws.proofs.Stepping.{got_here, sent_got}
@@ -58,7 +58,7 @@ full_still started S P J log f ahead ungot full = record {
   more = more_still P J (ahead ⊎ IsOpenWithin S P J) (IsMessageLeft started S P J log) (λ left. elim left [ inl a ↦ inl (ungot a) | inr opened ↦ inr opened ]) full.more;
 }
 
-module _ (started : ℕ) (S : Scenario) (replies : SetupReplies) (counts : (i : ℕ) (l : LinkNo) → sim_link started S i ≡ Some l → length (replies i) ≡ setup_count S i) (log entries : List LogEntry) (risen : Type 0) (C : CrewState) (stopped : AreStopped entries risen C) where
+module _ (started : ℕ) (S : Scenario) (replies : Messages) (counts : (i : ℕ) (l : LinkNo) → sim_link started S i ≡ Some l → length (replies i) ≡ setup_count S i) (log entries : List LogEntry) (risen : Type 0) (C : CrewState) (stopped : AreStopped entries risen C) where
   -- a channel that gave these messages and holds no further one: they are all that were heard of
   -- the run, and behind them is what is held
   module _ (i : ℕ) (l : LinkNo) (linked : sim_link started S i ≡ Some l) (messages : List Message) (items : List Item) (h : HasChannel S replies log i l messages items C) (none : first_message h.channel.held ≡ None) where

@@ -16,7 +16,7 @@ use Rattle.mk_plan.specs.declared.Place.TheVariants.{Idle, Stepping, Fetching}
 use Rattle.mk_plan.specs.declared.Cause.{Cause}
 use Rattle.mk_plan.specs.Acts.{Heard}
 use Rattle.mk_plan.specs.Deliveries.{supply}
-use Rattle.mk_plan.specs.Sequential.{response, takes_id, id_after}
+use Rattle.mk_plan.specs.Sequential.{Messages, response, takes_id, id_after}
 use Rattle.mk_plan.specs.Turns.{wrong, next_place, wanted}
 use Rattle.mk_plan.specs.Plans.{first_id, sim_count, has_outputs}
 use Rattle.mk_plan.specs.Journals.{View, OpenTurn, Owed, view, sent, bare, place_at, open_after, told_more, note_got, note_right}
@@ -34,7 +34,6 @@ use Rattle.mk_run_laws.specs.Handshake.{setup_count, sim_link, is_within}
 use Rattle.mk_run_laws.specs.Channels.{Channel}
 use Rattle.mk_run_laws.specs.Kinds.{Replies}
 use Rattle.mk_run_laws.specs.Crews.{CrewState, channel_at, kept_of, IsHeard, IsSentOnLink, IsSentWithin}
-use Rattle.mk_run_laws.specs.Running.{SetupReplies}
 use Rattle.mk_run_laws.specs.inner.Running.{IsRunningWith, IsRunning, awaited}
 use Rattle.mk_run_laws.proofs.Stepping.{but, heard, asked_on_link, asked_within, heard_quiet, answered_on_link, answered_within, after_message}
 use Rattle.mk_run_laws.proofs.Saying.{link_there}
@@ -175,7 +174,7 @@ answered_opens core new s m stands standing a =
     same_place = ap (λ (V : View). id_at (place_at (V.open_at s.0))) (view_push P K (Sent s a.item)) ∙ ap (λ (b : Bool). id_at (place_at (if b then open_after P (view P K) s.0 a.item else (view P K).open_at s.0))) (same_self s.0)
         ∙ ap (λ (o : Option OpenTurn). id_at (place_at o)) (open_after_is P (view P K) s.0 a.item late) ∙ told_place ((view P K).open_at s.0)
 
-module _ (started : ℕ) (S : Scenario) (replies : SetupReplies) (reply : Replies) where
+module _ (started : ℕ) (S : Scenario) (replies : Messages) (reply : Replies) where
   -- the core asked simulator s with a link, and its Step was queued with the id that is open
   pub asked_link : (old new : CoreState) (log : List LogEntry) (C D : CrewState) (s : SimNo) (id : ℕ) (l : LinkNo) → Stands old.plan old.entries → IsRunning started S replies reply old.plan old.entries log C → (a : IsAsked old s new)
       → sim_link started S s.0 ≡ Some l → first_id old.plan s.0 ≡ setup_count S s.0 → open_id new s.0 ≡ Some id → IsSentOnLink s.0 (Step a.at a.inputs a.advance) id C D → IsRunning started S replies reply new.plan new.entries log D

@@ -13,11 +13,12 @@ use Rattle.mk_scenario.specs.declared.parts.Scenario.{Scenario}
 use Rattle.mk_outside.specs.declared.fleet.LogEntry.{LogEntry}
 use Rattle.mk_sched.proofs.Pushed.{last_or_before, sent_not_got}
 use Rattle.mk_run_laws.specs.Kinds.{Replies, KeepsToKinds}
-use Rattle.mk_run_laws.specs.Running.{SetupReplies, RestsEnd}
+use Rattle.mk_run_laws.specs.Running.{RestsEnd}
 use Rattle.mk_run_laws.specs.inner.Running.{RestsOver}
 use Rattle.mk_run.specs.Ends.{AreInRange}
 use Rattle.mk_base.proofs.Items.{not_empty, same_heads}
 use Rattle.mk_plan.specs.Messages.{is_message_in_range}
+use Rattle.mk_plan.specs.Sequential.{Messages}
 
 -- two journals that end with these entries are one
 pub same_last : (J H : List Entry) (e d : Entry) → J ++ e ∷ [] ≡ H ++ d ∷ [] → (J ≡ H) × (e ≡ d)
@@ -55,7 +56,7 @@ pub got_front : (J : List Entry) (e : Entry) (i : ℕ) → BeginsWith (got (J ++
 got_front J e i = (got (e ∷ []) i, filter_map_append (got_from i) J (e ∷ []))
 
 -- the rests so far are rests of the longer journal too
-pub rests_longer : (started : ℕ) (S : Scenario) (replies : SetupReplies) (P : Plan) (J : List Entry) (e : Entry) (log : List LogEntry) → RestsOver started S replies P J log → RestsEnd started S replies P (J ++ e ∷ []) log
+pub rests_longer : (started : ℕ) (S : Scenario) (replies : Messages) (P : Plan) (J : List Entry) (e : Entry) (log : List LogEntry) → RestsOver started S replies P J log → RestsEnd started S replies P (J ++ e ∷ []) log
 rests_longer started S replies P J e log rests before after is up =
     let t = rests before after is up in
     let r = t.0 in

@@ -12,7 +12,7 @@ use Rattle.mk_plan.specs.Plans.{first_id, IsValidPlan}
 use Rattle.mk_plan.specs.Journals.{Fault, view, sent, got}
 use Rattle.mk_plan.specs.Ready.{IsDone}
 use Rattle.mk_plan.specs.Orderly.{IsEager}
-use Rattle.mk_plan.specs.Sequential.{id_after}
+use Rattle.mk_plan.specs.Sequential.{Messages, id_after}
 use Rattle.mk_frame.specs.Frames.{limit, IsTooLong}
 use Rattle.mk_message.specs.Written.{item_text}
 use Rattle.mk_scenario.specs.declared.parts.Scenario.{Scenario}
@@ -28,7 +28,6 @@ use Rattle.mk_run_laws.specs.Exchanges.{Exchange}
 use Rattle.mk_run_laws.specs.Hearing.{rest_heard}
 use Rattle.mk_run_laws.specs.Handshake.{sim_link, is_within}
 use Rattle.mk_run_laws.specs.Rests.{run_messages, AllSetUp, IsWellInSetup, RestsWell}
-use Rattle.mk_run_laws.specs.Running.{SetupReplies}
 use Rattle.mk_run_laws.specs.Runs.{IsLinkOfRun}
 use Rattle.mk_run_laws.specs.Laws.{IsJournalOf}
 use Rattle.mk_run_links.specs.Entries.{AreOn, IsRunLink}
@@ -162,7 +161,7 @@ AreInRange J = (H : List Entry) (s : SimNo) (m : Message) (more : List Entry)
 -- was ready; no link but the run's was read or written, no clock was read, and no nap was taken
 pub record IsRun (X : Exchange) (P : Plan) (J : List Entry) (faults new_faults : ℕ)
     (end : Outcome) : Type 0 where
-  pub replies : SetupReplies
+  pub replies : Messages
   pub valid : IsValidPlan P
   pub journal : IsJournalOf X P J
   pub eager : IsEager P J

@@ -3,6 +3,7 @@ use Rattle.std.proofs.Common.{◌≡◌, ℕ, zero, suc, ◌+◌, Bool, false, L
 use Rattle.mk_base.specs.declared.LinkNo.{LinkNo}
 use Rattle.mk_base.proofs.Lists.{none_some, some_same, append_nil, set_here, set_else}
 use Rattle.mk_plan.specs.declared.Message.{Message}
+use Rattle.mk_plan.specs.Sequential.{Messages}
 use Rattle.mk_message.specs.Written.{call_text}
 use Rattle.mk_outside.specs.declared.fleet.LogEntry.{LogEntry}
 use Rattle.mk_scenario.specs.declared.parts.Scenario.{Scenario}
@@ -13,7 +14,6 @@ use Rattle.mk_run_laws.specs.Payloads.{IsFramed}
 use Rattle.mk_run_laws.specs.Channels.{Channel, queued}
 use Rattle.mk_run_laws.specs.Crews.{CrewState, AreMoved, AreParkedAtRests, IsHeard, on_link, given_by}
 use Rattle.mk_run_laws.specs.Handshake.{Request, setup_requests, call_to, sim_link, is_within}
-use Rattle.mk_run_laws.specs.Running.{SetupReplies}
 use Rattle.mk_run_laws.specs.inner.Running.{IsBetween, IsSettingUp}
 use Rattle.mk_run_laws.proofs.Greeting.{fresh, requested, requested_within, replied}
 use Rattle.mk_run_laws.proofs.Moving.{moved_back}
@@ -66,12 +66,12 @@ module _ (started : ℕ) (S : Scenario) (rows : List Turn) where
   -- ---- one request
 
   -- the requests so far, and the next
-  pub next_between : (replies : SetupReplies) (log : List LogEntry) (C : CrewState) (k : ℕ) (r : Request) → slice_get (setup_requests S) k ≡ Some r → IsBetween started S replies log C (take k (setup_requests S)) (drop k (setup_requests S))
+  pub next_between : (replies : Messages) (log : List LogEntry) (C : CrewState) (k : ℕ) (r : Request) → slice_get (setup_requests S) k ≡ Some r → IsBetween started S replies log C (take k (setup_requests S)) (drop k (setup_requests S))
       → IsBetween started S replies log C (take k (setup_requests S)) (r ∷ drop (suc k) (setup_requests S))
   next_between replies log C k r e b = subst (λ (rs : List Request). IsBetween started S replies log C (take k (setup_requests S)) rs) (cut_at k r (setup_requests S) e).1 b
 
   -- and behind the next
-  pub after_next : (replies : SetupReplies) (log : List LogEntry) (C : CrewState) (answers : List Message) (m : Message) (r : Request) → slice_get (setup_requests S) (length answers) ≡ Some r
+  pub after_next : (replies : Messages) (log : List LogEntry) (C : CrewState) (answers : List Message) (m : Message) (r : Request) → slice_get (setup_requests S) (length answers) ≡ Some r
       → IsBetween started S replies log C (take (length answers) (setup_requests S) ++ r ∷ []) (drop (suc (length answers)) (setup_requests S))
       → IsBetween started S replies log C (take (length (answers ++ m ∷ [])) (setup_requests S)) (drop (length (answers ++ m ∷ [])) (setup_requests S))
   after_next replies log C answers m r e b = subst (λ (n : ℕ). IsBetween started S replies log C (take n (setup_requests S)) (drop n (setup_requests S))) (sym (count_pushed answers m))
@@ -154,14 +154,14 @@ module _ (started : ℕ) (S : Scenario) (rows : List Turn) where
   heard_there entries i m L M (on_link k l w there moved parked) = (w, there)
 
   -- entries on the channels' links, once a request was queued, are on the run's
-  pub asked_on : (log entries : List LogEntry) (replies : SetupReplies) (done later : List Request) (C : CrewSeen) (M : Channels) (s : ℕ) (w v : Channel) → AreOn (IsRunLink started S) log → IsBetween started S replies log (crew C.channels) done later
+  pub asked_on : (log entries : List LogEntry) (replies : Messages) (done later : List Request) (C : CrewSeen) (M : Channels) (s : ℕ) (w v : Channel) → AreOn (IsRunLink started S) log → IsBetween started S replies log (crew C.channels) done later
       → ((i : ℕ) (u : Channel) → at C.channels i ≡ Some u → (l : LinkNo) × (sim_link started S i ≡ Some l)) → IsSet s w v C.channels M → v.link ≡ w.link → AreOn (IsChannelLink M) entries → AreOn (IsRunLink started S) (log ++ entries)
   asked_on log entries replies done later C M s w v before between back set same more = on_more (IsRunLink started S) log entries before (on_run started S M entries
       (λ i l q. let t = between.channels i l q in let x = set_there s w v C.channels M set same i t.0 t.1 in (x.0, x.1, x.2 ∙ t.2))
       (λ i u e. let b = set_back s w v C.channels M set same i u e in back i b.0 b.1) more)
 
   -- the request was queued
-  pub set_up_so : (replies : SetupReplies) (log : List LogEntry) (answers : List Message) (L M : Channels) (r : Request) (id : ℕ) (l : LinkNo) (w : Channel)
+  pub set_up_so : (replies : Messages) (log : List LogEntry) (answers : List Message) (L M : Channels) (r : Request) (id : ℕ) (l : LinkNo) (w : Channel)
       → IsBetween started S replies log (crew L) (take (length answers) (setup_requests S)) (drop (length answers) (setup_requests S))
       → slice_get (setup_requests S) (length answers) ≡ Some r → id ≡ id_before S (length answers) r.sim → sim_link started S r.sim ≡ Some l → IsSet r.sim w (queued (call_text id r.call) (id + 1) w) L M → IsFramed (call_text id r.call)
       → IsSettingUp started S replies log (crew M) (take (length answers) (setup_requests S)) r (drop (suc (length answers)) (setup_requests S))

@@ -10,6 +10,7 @@ use Rattle.mk_outside.specs.declared.fleet.LogEntry.{LogEntry}
 use Rattle.mk_outside.specs.declared.fleet.LogEntry.TheVariants.{Rest, Ended}
 use Rattle.mk_outside.specs.Logs.{heard_on, said_on, last_that, later_of, is_read}
 use Rattle.mk_plan.specs.declared.Message.{Message}
+use Rattle.mk_plan.specs.Sequential.{Messages}
 use Rattle.mk_scenario.specs.declared.parts.Scenario.{Scenario}
 use Rattle.mk_run_crew.specs.Attempts.{attempt}
 use Rattle.mk_local.specs.declared.turn.Turn.{Turn}
@@ -19,7 +20,6 @@ use Rattle.mk_run_laws.specs.Crews.{AreMoved, AreParkedAtRests, given_by, kept_o
 use Rattle.mk_run_laws.specs.Handshake.{Request, setup_requests, call_to, call_payloads, sim_link}
 use Rattle.mk_run_laws.specs.Hearing.{messages_heard, rest_heard, first_message}
 use Rattle.mk_run_laws.specs.Rests.{AllSetUp, IsWellInSetup}
-use Rattle.mk_run_laws.specs.Running.{SetupReplies}
 use Rattle.mk_run_laws.specs.inner.Running.{IsBetween, IsSettingUp}
 use Rattle.mk_run_laws.proofs.Moving.{channel_moved, moved_there, moved_back}
 use Rattle.mk_run_laws.proofs.SettingUp.{well_in_setup, not_set_up}
@@ -77,7 +77,7 @@ RestRight started S log = (before after : List LogEntry) → log ≡ before ++ R
 module _ (started : ℕ) (S : Scenario) (ranks : List ℕ) (rows : List Turn) where
   -- ---- between two requests
 
-  channels_at : (replies : SetupReplies) (log : List LogEntry) (L : Channels) (done later : List Request) → IsBetween started S replies log (crew L) done later → AreAt started S log done L
+  channels_at : (replies : Messages) (log : List LogEntry) (L : Channels) (done later : List Request) → IsBetween started S replies log (crew L) done later → AreAt started S log done L
   channels_at replies log L done later b i l e = let t = b.channels i l e in (replies i, t.0, t.1, t.2, t.3)
 
   pub between_halts : (log : List LogEntry) (risen : Type 0) (h : Halt) (answers : List Message) (C : CrewSeen) → IsAnswered started S rows log answers C
@@ -155,7 +155,7 @@ module _ (started : ℕ) (S : Scenario) (ranks : List ℕ) (rows : List Turn) wh
   -- ---- behind a request on a link
 
   -- after a call that gave these messages
-  pub moved_at : (replies : SetupReplies) (log entries : List LogEntry) (given : ℕ → List Message) (M N : Channels) (done : List Request) (now : Request) (later : List Request) → IsSettingUp started S replies log (crew M) done now later → AreMoved entries given (crew M) (crew N)
+  pub moved_at : (replies : Messages) (log entries : List LogEntry) (given : ℕ → List Message) (M N : Channels) (done : List Request) (now : Request) (later : List Request) → IsSettingUp started S replies log (crew M) done now later → AreMoved entries given (crew M) (crew N)
       → (i : ℕ) (l : LinkNo) → sim_link started S i ≡ Some l
       → (w : Channel) × (at N i ≡ Some w) × (w.link ≡ l) × IsChannelAt (log ++ entries) (replies i ++ given i) (call_payloads 0 (filter_map (call_to i) (done ++ now ∷ []))) (count_to i (done ++ now ∷ [])) w
   moved_at replies log entries given M N done now later up moved i l e =
@@ -163,7 +163,7 @@ module _ (started : ℕ) (S : Scenario) (ranks : List ℕ) (rows : List Turn) wh
       let v = moved_there entries (given i) (at M i) (at N i) t.0 t.1 (moved i) in
       (v.0, v.1, v.2.link ∙ t.2, channel_moved log entries (replies i) (given i) (call_payloads 0 (filter_map (call_to i) (done ++ now ∷ []))) (count_to i (done ++ now ∷ [])) t.0 v.0 t.3 v.2)
 
-  rests_on : (replies : SetupReplies) (log entries : List LogEntry) (M : Channels) (done : List Request) (now : Request) (later : List Request) → IsSettingUp started S replies log (crew M) done now later → RestRight started S log → AreParkedAtRests entries (crew M) → RestRight started S (log ++ entries)
+  rests_on : (replies : Messages) (log entries : List LogEntry) (M : Channels) (done : List Request) (now : Request) (later : List Request) → IsSettingUp started S replies log (crew M) done now later → RestRight started S log → AreParkedAtRests entries (crew M) → RestRight started S (log ++ entries)
   rests_on replies log entries M done now later up rests parked before after is = elim (first_or_second log entries before after Rest is) [
     | inl t ↦ rests before t.0 t.1
     | inr t ↦ subst (λ (b : List LogEntry). IsWellInSetup started S b × (AllSetUp started S b → ⊥)) (sym t.1)

@@ -7,12 +7,13 @@ use Rattle.mk_run_crew.specs.Attempts.{Attempt}
 use Rattle.mk_plan.specs.declared.Message.{Message}
 use Rattle.mk_plan.specs.declared.Plan.{Plan}
 use Rattle.mk_plan.specs.Plans.{IsValidPlan, first_id, sim_count}
+use Rattle.mk_plan.specs.Sequential.{Messages}
 use Rattle.mk_launch.specs.Starts.{places}
 use Rattle.mk_run_laws.specs.Channels.{Channel}
 use Rattle.mk_run_laws.specs.Crews.{channel_at}
 use Rattle.mk_run_laws.specs.Handshake.{setup_requests, setup_count, sim_link}
 use Rattle.mk_run_laws.specs.Rests.{IsWellInSetup}
-use Rattle.mk_run_laws.specs.Running.{SetupReplies, IsBegun}
+use Rattle.mk_run_laws.specs.Running.{IsBegun}
 use Rattle.mk_setup.specs.Handshakes.{IsMade}
 use Rattle.mk_run_links.specs.Entries.{AreOn, IsRunLink}
 use Rattle.mk_run_local.specs.Made as setups
@@ -29,7 +30,7 @@ pub record HasBegun (A : Attempt) (C : CrewSeen) (P : Plan) : Type 0 where
   pub answers : List Message
   pub made : IsMade A.scenario A.ranks answers P
   pub kinds : AreKindAnswers A.rows A.scenario answers
-  pub replies : SetupReplies
+  pub replies : Messages
   pub told : (i : ℕ) (l : LinkNo) → sim_link A.started A.scenario i ≡ Some l
       → replies i ≡ answers_to i (setup_requests A.scenario) answers
   pub counts : (i : ℕ) (l : LinkNo) → sim_link A.started A.scenario i ≡ Some l

@@ -11,7 +11,7 @@ use Rattle.mk_plan.specs.declared.Item.{Item}
 use Rattle.mk_plan.specs.declared.Message.{Message}
 use Rattle.mk_plan.specs.declared.Entry.{Entry}
 use Rattle.mk_plan.specs.Plans.{sim_count, IsValidPlan}
-use Rattle.mk_plan.specs.Sequential.{run_items}
+use Rattle.mk_plan.specs.Sequential.{Messages, run_items}
 use Rattle.mk_plan.specs.Journals.{got, bare}
 use Rattle.mk_plan.specs.Ready.{IsReady}
 use Rattle.mk_plan.specs.Advance.{IsAdvance}
@@ -27,14 +27,13 @@ use Rattle.mk_run_laws.specs.Payloads.{AreFramed, link_payloads}
 use Rattle.mk_run_laws.specs.Channels.{Channel, IsChannelAt, IsStopped}
 use Rattle.mk_run_laws.specs.Kinds.{Replies, KeepsToKinds}
 use Rattle.mk_run_laws.specs.Rests.{run_messages}
-use Rattle.mk_run_laws.specs.Running.{SetupReplies}
 use Rattle.mk_run_laws.specs.Runs.{IsPossible, IsLinkOfRun, SaysRight}
 use Rattle.mk_run_laws.proofs.Moving.{said_at_stop, framed_at_stop}
 use Rattle.mk_run_laws.proofs.Saying.{items_begin}
 
 -- a run's link says what it should
 pub run_says : (P : Plan) → IsValidPlan P → (started : ℕ) (S : Scenario) → sim_count P ≡ length S.sims → (reply : Replies) (log : List LogEntry) (J : List Entry) → IsOrderlySoFar IsReady IsAdvance P J → KeepsToKinds reply (is_within S) P J
-    → ((i : ℕ) (l : LinkNo) → sim_link started S i ≡ Some l → BeginsWith (run_messages S log i l) (got J i)) → (replies : SetupReplies) (risen : Type 0) (i : ℕ) (l : LinkNo) (items : List Item) → IsLinkOfRun S replies J log risen i l items
+    → ((i : ℕ) (l : LinkNo) → sim_link started S i ≡ Some l → BeginsWith (run_messages S log i l) (got J i)) → (replies : Messages) (risen : Type 0) (i : ℕ) (l : LinkNo) (items : List Item) → IsLinkOfRun S replies J log risen i l items
     → SaysRight (exchange started S reply log) (Some P) i l (setup_count S i) items true
 run_says P valid started S sims reply log J orderly kinds links replies risen i l items run = record {
   handshake = omega arith;

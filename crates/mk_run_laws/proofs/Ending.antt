@@ -19,12 +19,12 @@ use Rattle.mk_outside.specs.Logs.{heard_on, said_on, last_write}
 use Rattle.mk_run_laws.specs.Hearing.{messages_heard, rest_heard, first_message}
 use Rattle.mk_run_laws.specs.Handshake.{setup_count, setup_payloads, call_payloads, calls_to, sim_link}
 use Rattle.mk_plan.specs.declared.Call.{Call}
-use Rattle.mk_plan.specs.Sequential.{id_after}
+use Rattle.mk_plan.specs.Sequential.{Messages, id_after}
 use Rattle.mk_run_laws.specs.Payloads.{AreFramed, item_payloads, link_payloads}
 use Rattle.mk_run_laws.specs.Channels.{Channel, IsStopped}
 use Rattle.mk_run_laws.specs.Rests.{run_messages}
 use Rattle.mk_run_laws.specs.Crews.{CrewState, AreStopped, IsRestless}
-use Rattle.mk_run_laws.specs.Running.{SetupReplies, RestsEnd}
+use Rattle.mk_run_laws.specs.Running.{RestsEnd}
 use Rattle.mk_run_laws.specs.inner.Running.{HasChannel}
 use Rattle.mk_run_laws.specs.Runs.{run_frames, IsLinkOfRun}
 use Rattle.mk_run_laws.proofs.Taking.{taken_heard, taken_rest, none_heard}
@@ -37,7 +37,7 @@ pub payloads_of_run : (S : Scenario) (i : ℕ) (items : List Item) → link_payl
 payloads_of_run S i items = ap (λ (ps : List (List ℕ)). (ps ++ item_payloads (setup_count S i) items) ++ call_text (id_after (setup_count S i) items) Stop ∷ [])
     (ap (λ (n : ℕ). take n (setup_payloads S i)) (sym (payloads_counted 0 (calls_to S i))) ∙ take-length (setup_payloads S i))
 
-module _ (started : ℕ) (S : Scenario) (replies : SetupReplies) (counts : (i : ℕ) (l : LinkNo) → sim_link started S i ≡ Some l → length (replies i) ≡ setup_count S i) (J : List Entry) (log entries : List LogEntry) (risen : Type 0) (C : CrewState)
+module _ (started : ℕ) (S : Scenario) (replies : Messages) (counts : (i : ℕ) (l : LinkNo) → sim_link started S i ≡ Some l → length (replies i) ≡ setup_count S i) (J : List Entry) (log entries : List LogEntry) (risen : Type 0) (C : CrewState)
     (stopped : AreStopped entries risen C) (i : ℕ) (l : LinkNo) (linked : sim_link started S i ≡ Some l) (messages : List Message) (items : List Item) (h : HasChannel S replies log i l messages items C) where
   abbrev pub w : Channel
   w = h.channel
@@ -80,7 +80,7 @@ module _ (started : ℕ) (S : Scenario) (replies : SetupReplies) (counts : (i : 
       ∙ taken_rest (heard_on h.channel.link log) (replies i ++ messages) h.channel.held h.in_step.heard ∙ (none_heard w.held none).1
 
 -- a stop adds no rest
-pub rests_stopped : (started : ℕ) (S : Scenario) (replies : SetupReplies) (P : Plan) (J : List Entry) (log entries : List LogEntry) → IsRestless entries → RestsEnd started S replies P J log → RestsEnd started S replies P J (log ++ entries)
+pub rests_stopped : (started : ℕ) (S : Scenario) (replies : Messages) (P : Plan) (J : List Entry) (log entries : List LogEntry) → IsRestless entries → RestsEnd started S replies P J log → RestsEnd started S replies P J (log ++ entries)
 rests_stopped started S replies P J log entries restless rests before after is up = elim (first_or_second log entries before after Rest is) [
   | inl t ↦ rests before t.0 t.1 up
   | inr t ↦ absurd (restless t.0 after t.2)

@@ -5,6 +5,7 @@ use Rattle.mk_base.specs.declared.LinkNo.{LinkNo}
 use Rattle.mk_base.proofs.Lists.{append_nil, none_some, filter_map_append, set_here, set_else}
 use Rattle.mk_plan.specs.declared.Call.{Call}
 use Rattle.mk_plan.specs.declared.Message.{Message}
+use Rattle.mk_plan.specs.Sequential.{Messages}
 use Rattle.mk_message.specs.Written.{call_text}
 use Rattle.mk_scenario.specs.declared.parts.Scenario.{Scenario}
 use Rattle.mk_outside.specs.declared.fleet.LogEntry.{LogEntry}
@@ -16,7 +17,7 @@ use Rattle.mk_run_laws.specs.Channels.{Channel, IsMoved, IsChannelAt, queued}
 use Rattle.mk_run_laws.specs.Payloads.{IsFramed}
 use Rattle.mk_run_laws.specs.Rests.{AllSetUp, IsWellInSetup}
 use Rattle.mk_run_laws.specs.Crews.{CrewState, channel_at, IsMovedAt, given_by, AreMoved, AreParkedAtRests}
-use Rattle.mk_run_laws.specs.Running.{SetupReplies, IsBegun}
+use Rattle.mk_run_laws.specs.Running.{IsBegun}
 use Rattle.mk_run_laws.specs.inner.Running.{IsSettingUp, IsBetween}
 use Rattle.mk_run_laws.proofs.Moving.{channel_moved, channel_queued, moved_there}
 use Rattle.mk_run_laws.proofs.Polling.{IsForeign, channel_left}
@@ -66,7 +67,7 @@ payloads_push id (d ∷ calls) c = ap (λ (l : List (List ℕ)). call_text id d 
 
 module _ (started : ℕ) (S : Scenario) where
   -- a request is queued on its channel
-  pub requested : (replies : SetupReplies) (log : List LogEntry) (C D : CrewState) (done : List Request) (now : Request) (later : List Request) (l : LinkNo) → IsBetween started S replies log C done (now ∷ later) → sim_link started S now.sim ≡ Some l
+  pub requested : (replies : Messages) (log : List LogEntry) (C D : CrewState) (done : List Request) (now : Request) (later : List Request) (l : LinkNo) → IsBetween started S replies log C done (now ∷ later) → sim_link started S now.sim ≡ Some l
       → ((w : Channel) → channel_at C now.sim ≡ Some w → (channel_at D now.sim ≡ Some (queued (call_text w.next now.call) (w.next + 1) w)) × IsFramed (call_text w.next now.call)) → ((i : ℕ) → (i ≡ now.sim → ⊥) → channel_at D i ≡ channel_at C i) → IsSettingUp started S replies log D done now later
   requested replies log C D done now later l b linked here others = record {
     parts = b.parts;
@@ -107,7 +108,7 @@ module _ (started : ℕ) (S : Scenario) where
           )
 
   -- a request to a simulator within the program is answered at once
-  pub requested_within : (replies : SetupReplies) (log : List LogEntry) (C : CrewState) (done : List Request) (now : Request) (later : List Request) → IsBetween started S replies log C done (now ∷ later) → sim_link started S now.sim ≡ None
+  pub requested_within : (replies : Messages) (log : List LogEntry) (C : CrewState) (done : List Request) (now : Request) (later : List Request) → IsBetween started S replies log C done (now ∷ later) → sim_link started S now.sim ≡ None
       → IsBetween started S replies log C (done ++ now ∷ []) later
   requested_within replies log C done now later b none = record {
     parts = b.parts ∙ sym (append_assoc done (now ∷ []) later);
@@ -120,7 +121,7 @@ module _ (started : ℕ) (S : Scenario) where
       same i l e = calls_push i done now ∙ ap (λ (cs : List Call). filter_map (call_to i) done ++ cs) (one_away now i (λ q. none_some (sym none ∙ ap (sim_link started S) (sym q) ∙ e))) ∙ append_nil (filter_map (call_to i) done)
 
   -- its reply was heard
-  pub replied : (replies : SetupReplies) (log entries : List LogEntry) (C D : CrewState) (done : List Request) (now : Request) (later : List Request) (m : Message) → IsSettingUp started S replies log C done now later
+  pub replied : (replies : Messages) (log entries : List LogEntry) (C D : CrewState) (done : List Request) (now : Request) (later : List Request) (m : Message) → IsSettingUp started S replies log C done now later
       → ((before after : List LogEntry) → log ≡ before ++ Rest ∷ after → IsWellInSetup started S before × (AllSetUp started S before → ⊥))
       → AreMoved entries (given_by now.sim m) C D → AreParkedAtRests entries C → IsBetween started S (λ i. replies i ++ given_by now.sim m i) (log ++ entries) D (done ++ now ∷ []) later
   replied replies log entries C D done now later m up rests moved parked = record {
@@ -139,7 +140,7 @@ module _ (started : ℕ) (S : Scenario) where
       more i = elim (now.sim == i) as (λ b. length (filter_map (call_to i) done) + length (if b then m ∷ [] else []) ≡ length (filter_map (call_to i) done) + length (cons_option (if b then Some now.call else None) [])) [ true ↦ refl | false ↦ refl ]
 
   -- after the last reply the run begins
-  pub greeted : (replies : SetupReplies) (log : List LogEntry) (C : CrewState) (done : List Request) → IsBetween started S replies log C done [] → ((i : ℕ) → is_within S i ≡ true → channel_at C i ≡ None) → C.kept ≡ [] → IsBegun started S replies log C
+  pub greeted : (replies : Messages) (log : List LogEntry) (C : CrewState) (done : List Request) → IsBetween started S replies log C done [] → ((i : ℕ) → is_within S i ≡ true → channel_at C i ≡ None) → C.kept ≡ [] → IsBegun started S replies log C
   greeted replies log C done b no_channel none = record {
     channels = λ i l e. let t = b.channels i l e in (t.0, t.1, t.2, subst (λ (rs : List Request). IsChannelAt log (replies i) (call_payloads 0 (filter_map (call_to i) rs)) (length (filter_map (call_to i) rs)) t.0) (sym (append_nil done) ∙ sym b.parts) t.3);
     no_channel = no_channel;

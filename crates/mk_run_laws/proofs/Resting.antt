@@ -13,6 +13,7 @@ use Rattle.mk_plan.specs.declared.Entry.{Entry}
 use Rattle.mk_plan.specs.declared.Entry.TheVariants.{Sent, Got}
 use Rattle.mk_plan.specs.Journals.{view, sent, got}
 use Rattle.mk_plan.specs.Ready.{IsReady}
+use Rattle.mk_plan.specs.Sequential.{Messages}
 use Rattle.mk_frame.specs.Frames.{frames_of}
 use Rattle.mk_scenario.specs.declared.parts.Scenario.{Scenario}
 use Rattle.mk_outside.specs.declared.fleet.LogEntry.{LogEntry}
@@ -22,7 +23,7 @@ use Rattle.mk_run_laws.specs.Hearing.{messages_heard}
 use Rattle.mk_run_laws.specs.Handshake.{setup_count, sim_link}
 use Rattle.mk_run_laws.specs.Channels.{Channel, IsChannelAt}
 use Rattle.mk_run_laws.specs.Rests.{with_number, within, run_messages, heard_counts, at_rest, all_frames, SaysAll, IsWellAtRest, RestsWell}
-use Rattle.mk_run_laws.specs.Running.{SetupReplies, IsInStep, IsRestOf, BeginsOnLink, RestsEnd}
+use Rattle.mk_run_laws.specs.Running.{IsInStep, IsRestOf, BeginsOnLink, RestsEnd}
 use Rattle.mk_run_laws.proofs.Taking.{taken_heard, none_heard, none_first, unfinished_none}
 use Rattle.mk_base.proofs.Counts.{same_or_not}
 
@@ -117,7 +118,7 @@ pub parked_messages : (log : List LogEntry) (ms : List Message) (payloads : List
 parked_messages log ms payloads next w parked at = taken_heard (heard_on w.link log) ms w.held at.heard
     ∙ ap (λ (more : List Message). ms ++ more) (none_heard w.held (none_first w.held (unfinished_none w.held (at.parked parked).unfinished))).0 ∙ append_nil ms
 
-module _ (started : ℕ) (S : Scenario) (replies : SetupReplies) (counts : (i : ℕ) (l : LinkNo) → sim_link started S i ≡ Some l → length (replies i) ≡ setup_count S i) (P : Plan) (J : List Entry) (before : List LogEntry) where
+module _ (started : ℕ) (S : Scenario) (replies : Messages) (counts : (i : ℕ) (l : LinkNo) → sim_link started S i ≡ Some l → length (replies i) ≡ setup_count S i) (P : Plan) (J : List Entry) (before : List LogEntry) where
   -- a parked channel holds no message: what was heard is what was given
   pub parked_heard : (i : ℕ) (l : LinkNo) → sim_link started S i ≡ Some l → (messages : List Message) (items : List Item) (w : Channel) → w.link ≡ l → w.parked ≡ true → IsInStep S replies before i messages items w
       → run_messages S before i l ≡ messages
@@ -163,6 +164,6 @@ module _ (started : ℕ) (S : Scenario) (replies : SetupReplies) (counts : (i : 
     }
 
 -- so each rest of a run is one
-pub rests_well : (started : ℕ) (S : Scenario) (replies : SetupReplies) (counts : (i : ℕ) (l : LinkNo) → sim_link started S i ≡ Some l → length (replies i) ≡ setup_count S i) (P : Plan) (J : List Entry) (log : List LogEntry)
+pub rests_well : (started : ℕ) (S : Scenario) (replies : Messages) (counts : (i : ℕ) (l : LinkNo) → sim_link started S i ≡ Some l → length (replies i) ≡ setup_count S i) (P : Plan) (J : List Entry) (log : List LogEntry)
     → RestsEnd started S replies P J log → RestsWell started S P J log
 rests_well started S replies counts P J log rests before after is up = let t = rests before after is up in well_at_rest started S replies counts P J before t.0 t.1

@@ -5,6 +5,7 @@ use Rattle.mk_base.specs.declared.LinkNo.{LinkNo}
 use Rattle.mk_base.proofs.Lists.{append_nil, none_some, some_same, filter_map_append}
 use Rattle.mk_plan.specs.declared.Call.{Call}
 use Rattle.mk_plan.specs.declared.Message.{Message}
+use Rattle.mk_plan.specs.Sequential.{Messages}
 use Rattle.mk_frame.specs.Frames.{frames_of}
 use Rattle.mk_scenario.specs.declared.parts.Scenario.{Scenario}
 use Rattle.mk_outside.specs.declared.fleet.LogEntry.{LogEntry}
@@ -15,7 +16,6 @@ use Rattle.mk_run_laws.specs.Handshake.{Request, setup_requests, call_to, call_p
 use Rattle.mk_run_laws.specs.Channels.{Channel, IsChannelAt}
 use Rattle.mk_run_laws.specs.Rests.{with_number, asked, all_counts, AllSetUp, SaysAll, IsWellInSetup}
 use Rattle.mk_run_laws.specs.Crews.{CrewState, AreParkedAtRests}
-use Rattle.mk_run_laws.specs.Running.{SetupReplies}
 use Rattle.mk_run_laws.specs.inner.Running.{IsSettingUp}
 use Rattle.mk_run_laws.proofs.Moving.{channel_moved}
 use Rattle.mk_run_laws.proofs.Resting.{number_here, number_away, parked_said, parked_messages}
@@ -75,7 +75,7 @@ asked_is heard (r ∷ A) now later counted there i wanted = go (λ h c t w. aske
 
 -- ---- at a rest
 
-module _ (started : ℕ) (S : Scenario) (replies : SetupReplies) (log entries : List LogEntry) (C : CrewState) (done : List Request) (now : Request) (later : List Request) (up : IsSettingUp started S replies log C done now later)
+module _ (started : ℕ) (S : Scenario) (replies : Messages) (log entries : List LogEntry) (C : CrewState) (done : List Request) (now : Request) (later : List Request) (up : IsSettingUp started S replies log C done now later)
     (parked : AreParkedAtRests entries C) (before after : List LogEntry) (is : entries ≡ before ++ Rest ∷ after) where
   -- each channel at the rest
   at_rest : (i : ℕ) (l : LinkNo) → sim_link started S i ≡ Some l

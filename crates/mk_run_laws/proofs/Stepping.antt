@@ -17,7 +17,7 @@ use Rattle.mk_plan.specs.declared.Place.{Place}
 use Rattle.mk_plan.specs.declared.Cause.{Cause}
 use Rattle.mk_plan.specs.Turns.{wrong, next_place}
 use Rattle.mk_plan.specs.Journals.{View, OpenTurn, Owed, Arrival, view, sent, got, bare, with_open, place_at, note_got, note_right, open_after}
-use Rattle.mk_plan.specs.Sequential.{takes_id, id_after}
+use Rattle.mk_plan.specs.Sequential.{Messages, takes_id, id_after}
 use Rattle.mk_plan.proofs.OpenTurns.{stays_open}
 use Rattle.mk_message.specs.Written.{item_text}
 use Rattle.mk_scenario.specs.declared.parts.SimPart.{SimPart}
@@ -30,7 +30,7 @@ use Rattle.mk_run_laws.specs.Payloads.{item_payloads}
 use Rattle.mk_run_laws.specs.Channels.{Channel, IsChannelAt, queued}
 use Rattle.mk_run_laws.specs.Kinds.{Replies, IsKindReply, KeepsToKinds}
 use Rattle.mk_run_laws.specs.Crews.{CrewState, channel_at, kept_from, kept_of, given_by, AreMoved, AreParkedAtRests, IsHeard, IsSentOnLink, IsSentWithin}
-use Rattle.mk_run_laws.specs.Running.{SetupReplies, IsInStep, IsRestOf, BeginsOnLink, RestsEnd, IsBegun}
+use Rattle.mk_run_laws.specs.Running.{IsInStep, IsRestOf, BeginsOnLink, RestsEnd, IsBegun}
 use Rattle.mk_run_laws.specs.inner.Running.{HasChannel, awaited, RestsOver, IsRunningWith, IsRunning, IsUnready}
 use Rattle.mk_run_laws.proofs.Moving.{channel_moved, channel_queued, moved_there, moved_none}
 use Rattle.mk_base.proofs.Counts.{not_same, same_or_not, same_self}
@@ -177,7 +177,7 @@ module _ (started : ℕ) (S : Scenario) where
   pub begins_longer : (more : List Entry) (e : Entry) → BeginsOnLink started S more → BeginsOnLink started S (more ++ e ∷ [])
   begins_longer more e (s, m, later, l, is, linked) = (s, m, later ++ e ∷ [], l, ap (λ (k : List Entry). k ++ e ∷ []) is, linked)
 
-module _ (started : ℕ) (S : Scenario) (replies : SetupReplies) (reply : Replies) (P : Plan) where
+module _ (started : ℕ) (S : Scenario) (replies : Messages) (reply : Replies) (P : Plan) where
   -- ---- the parts
 
   abbrev rest_longer : (J : List Entry) (e : Entry) (before : List LogEntry) (r : IsRestOf started S replies P J before) → IsRestOf started S replies P (J ++ e ∷ []) before

@@ -27,7 +27,7 @@ use Rattle.mk_run_laws.specs.Hearing.{messages_heard, rest_heard, Takes}
 use Rattle.mk_run_laws.specs.Handshake.{setup_count, sim_link, is_within}
 use Rattle.mk_run_laws.specs.Kinds.{Replies, AnswersByKind, KeepsToKinds, RepliesAreRight, AreThere}
 use Rattle.mk_run_laws.specs.Rests.{run_messages, RestsWell}
-use Rattle.mk_run_laws.specs.Running.{SetupReplies, RestsEnd}
+use Rattle.mk_run_laws.specs.Running.{RestsEnd}
 use Rattle.mk_run_laws.specs.Runs.{IsPossible, IsPossibleUpTo, IsLinkOfRun, SaysRight}
 
 -- however messages are taken off bytes, they are the first that were heard
@@ -47,7 +47,7 @@ pub record IsJournalOf (X : Exchange) (P : Plan) (J : List Entry) : Type 0 where
 -- what is said on a run's link is right
 abbrev pub LinksSayRight : Plan → Type 0
 LinksSayRight P = (X : Exchange) (J : List Entry) → IsJournalOf X P J
-    → (replies : SetupReplies) (faults new_faults i : ℕ) (l : LinkNo) (items : List Item)
+    → (replies : Messages) (faults new_faults i : ℕ) (l : LinkNo) (items : List Item)
     → IsLinkOfRun X.scenario replies J X.log (HasRisen faults new_faults) i l items
     → SaysRight X (Some P) i l (setup_count X.scenario i) items true
 
@@ -74,7 +74,7 @@ StepsPromise P = (X : Exchange) (J : List Entry) → IsJournalOf X P J
 
 -- what stood at each rest of a run, said of the run's own journal
 abbrev pub RestsAreWell : Type 0
-RestsAreWell = (started : ℕ) (S : Scenario) (replies : SetupReplies)
+RestsAreWell = (started : ℕ) (S : Scenario) (replies : Messages)
     → ((i : ℕ) (l : LinkNo) → sim_link started S i ≡ Some l → length (replies i) ≡ setup_count S i)
     → (P : Plan) (J : List Entry) (log : List LogEntry)
     → RestsEnd started S replies P J log → RestsWell started S P J log

@@ -10,7 +10,7 @@ use Rattle.mk_plan.specs.declared.Entry.{Entry}
 use Rattle.mk_plan.specs.declared.Entry.TheVariants.{Got}
 use Rattle.mk_plan.specs.Journals.{view, sent, got}
 use Rattle.mk_plan.specs.Ready.{IsReady}
-use Rattle.mk_plan.specs.Sequential.{id_after}
+use Rattle.mk_plan.specs.Sequential.{Messages, id_after}
 use Rattle.mk_scenario.specs.declared.parts.Scenario.{Scenario}
 use Rattle.mk_outside.specs.declared.fleet.LogEntry.{LogEntry}
 use Rattle.mk_outside.specs.declared.fleet.LogEntry.TheVariants.{Rest}
@@ -20,14 +20,10 @@ use Rattle.mk_run_laws.specs.Channels.{Channel, IsChannelAt}
 use Rattle.mk_run_laws.specs.Rests.{AllSetUp}
 use Rattle.mk_run_laws.specs.Crews.{CrewState, channel_at}
 
--- the replies of each simulator to its handshake
-abbrev pub SetupReplies : Type 0
-SetupReplies = ℕ → List Message
-
 -- over the log the channel of simulator i gave its setup replies and these messages, and these
 -- items
 -- were queued on it
-abbrev pub IsInStep : Scenario → SetupReplies → List LogEntry → ℕ → List Message → List Item
+abbrev pub IsInStep : Scenario → Messages → List LogEntry → ℕ → List Message → List Item
     → Channel
     → Type 0
 IsInStep S replies log i messages items w = IsChannelAt log (replies i
@@ -37,7 +33,7 @@ IsInStep S replies log i messages items w = IsChannelAt log (replies i
 -- when the fleet rested behind these entries, the journal was a beginning of J, nobody was ready,
 -- no
 -- request was open within the program, and each channel was parked, in step with that journal
-pub record IsRestOf (started : ℕ) (S : Scenario) (replies : SetupReplies) (P : Plan)
+pub record IsRestOf (started : ℕ) (S : Scenario) (replies : Messages) (P : Plan)
     (J : List Entry) (before : List LogEntry) : Type 0 where
   pub at : List Entry
   pub more : List Entry
@@ -54,14 +50,14 @@ BeginsOnLink started S more = (s : SimNo) × (m : Message) × (later : List Entr
 
 -- each rest at which all had set up is one of the journal (`IsRestOf`), and after it a message of a
 -- link came, if anything did
-abbrev pub RestsEnd : ℕ → Scenario → SetupReplies → Plan → List Entry → List LogEntry → Type 0
+abbrev pub RestsEnd : ℕ → Scenario → Messages → Plan → List Entry → List LogEntry → Type 0
 RestsEnd started S replies P J log = (before after : List LogEntry) → log ≡ before ++ Rest ∷ after
     → AllSetUp started S before
     → (r : IsRestOf started S replies P J before) × ((r.more ≡ []) ⊎ BeginsOnLink started S r.more)
 
 -- when the handshake is over: each channel gave its setup replies, only its handshake was queued on
 -- it, nothing is kept, and at no rest had all replied
-pub record IsBegun (started : ℕ) (S : Scenario) (replies : SetupReplies) (log : List LogEntry)
+pub record IsBegun (started : ℕ) (S : Scenario) (replies : Messages) (log : List LogEntry)
     (C : CrewState) : Type 0 where
   pub channels : (i : ℕ) (l : LinkNo) → sim_link started S i ≡ Some l → (w : Channel)
       × (channel_at C i ≡ Some w) × (w.link ≡ l)

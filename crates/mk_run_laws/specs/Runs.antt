@@ -20,7 +20,6 @@ use Rattle.mk_run_laws.specs.Handshake.{setup_count, sim_link, is_within}
 use Rattle.mk_run_laws.specs.Payloads.{AreFramed, link_payloads}
 use Rattle.mk_run_laws.specs.Kinds.{AnswersByKind}
 use Rattle.mk_run_laws.specs.Rests.{run_messages}
-use Rattle.mk_run_laws.specs.Running.{SetupReplies}
 
 -- messages that may come: on each link those that were heard, and whatever goes on; of the
 -- simulators within the program what their kinds answer
@@ -49,7 +48,7 @@ run_frames S i items = frames_of (link_payloads S i (setup_count S i) items true
 -- first of the others; what was said is a beginning of the frames of the handshake, of these first
 -- items of the journal, and of a stop, each of them one that is allowed, and all of it but where a write
 -- took nothing or the count of faults rose
-pub record IsLinkOfRun (S : Scenario) (replies : SetupReplies) (J : List Entry)
+pub record IsLinkOfRun (S : Scenario) (replies : Messages) (J : List Entry)
     (log : List LogEntry) (risen : Type 0) (i : ℕ) (l : LinkNo) (items : List Item) : Type 0 where
   pub replied : take (setup_count S i) (messages_heard (heard_on l log)) ≡ replies i
   pub got : BeginsWith (run_messages S log i l) (got J i)

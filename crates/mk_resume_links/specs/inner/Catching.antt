@@ -6,12 +6,12 @@ use Rattle.mk_plan.specs.declared.Item.{Item}
 use Rattle.mk_plan.specs.declared.Message.{Message}
 use Rattle.mk_plan.specs.declared.Entry.{Entry}
 use Rattle.mk_plan.specs.Journals.{Arrival, bare, got}
+use Rattle.mk_plan.specs.Sequential.{Messages}
 use Rattle.mk_scenario.specs.declared.parts.Scenario.{Scenario}
 use Rattle.mk_run_laws.specs.Exchanges.{Exchange}
 use Rattle.mk_run_laws.specs.Handshake.{is_within}
 use Rattle.mk_run_laws.specs.Kinds.{Replies}
 use Rattle.mk_run_laws.specs.Crews.{CrewState, kept_of}
-use Rattle.mk_run_laws.specs.Running.{SetupReplies}
 use Rattle.mk_resume_walk.specs.Talks.{free_items}
 use Rattle.mk_resume_links.specs.Rests.{Counts, repeated}
 use Rattle.mk_resume_links.specs.inner.Touching.{IsInTouch, RepeatsByKind, RestsSoFar}
@@ -23,7 +23,7 @@ one_more heard s i = if i == s then heard i + 1 else heard i
 -- they have come about together, each simulator having sent so many messages in this call; these
 -- items were queued behind the handshake, and these replies are kept
 pub record IsCatchingWith (items : ℕ → List Item) (awaits : ℕ → List Message) (saved : Counts)
-    (X : Exchange) (replies : SetupReplies) (P : Plan) (J : List Entry) (heard : Counts)
+    (X : Exchange) (replies : Messages) (P : Plan) (J : List Entry) (heard : Counts)
     (C : CrewState) : Type 0 where
   pub counts : (i : ℕ) → length (got J i) ≡ max (saved i) (heard i)
   pub touch : IsInTouch (λ i. repeated J i (heard i)) items awaits X.started X.scenario replies
@@ -39,7 +39,7 @@ awaited S reply J heard i = if is_within S i
     then reply i (map bare (free_items J i (heard i))) ∷ [] else []
 
 -- what is free was queued, and what is awaited is kept
-abbrev pub IsCatching : Counts → Exchange → SetupReplies → Plan → List Entry → Counts → CrewState
+abbrev pub IsCatching : Counts → Exchange → Messages → Plan → List Entry → Counts → CrewState
     → Type 0
 IsCatching saved X replies P J heard = IsCatchingWith
     (λ i. free_items J i (heard i)) (awaited X.scenario X.reply J heard) saved X replies P J heard

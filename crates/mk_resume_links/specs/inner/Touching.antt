@@ -6,6 +6,7 @@ use Rattle.mk_plan.specs.declared.Item.{Item}
 use Rattle.mk_plan.specs.declared.Message.{Message}
 use Rattle.mk_plan.specs.declared.Entry.{Entry}
 use Rattle.mk_plan.specs.Journals.{Arrival, bare, got, view}
+use Rattle.mk_plan.specs.Sequential.{Messages}
 use Rattle.mk_scenario.specs.declared.parts.Scenario.{Scenario}
 use Rattle.mk_outside.specs.declared.fleet.LogEntry.{LogEntry}
 use Rattle.mk_outside.specs.declared.fleet.LogEntry.TheVariants.{Rest}
@@ -13,7 +14,7 @@ use Rattle.mk_run_laws.specs.Handshake.{sim_link, is_within}
 use Rattle.mk_run_laws.specs.Kinds.{Replies}
 use Rattle.mk_run_laws.specs.Rests.{AllSetUp}
 use Rattle.mk_run_laws.specs.Crews.{CrewState, channel_at, kept_of}
-use Rattle.mk_run_laws.specs.Running.{SetupReplies, BeginsOnLink}
+use Rattle.mk_run_laws.specs.Running.{BeginsOnLink}
 use Rattle.mk_run_laws.specs.inner.Running.{HasChannel, IsUnready}
 use Rattle.mk_resume_walk.specs.Talks.{free_items}
 use Rattle.mk_resume_links.specs.Rests.{Counts}
@@ -22,7 +23,7 @@ use Rattle.mk_resume_links.specs.Running.{IsRestOf}
 -- over the log each channel gave its setup replies and these messages, and its handshake and these
 -- items were queued on it; no simulator within the program has one; and these replies are kept
 pub record IsInTouch (messages : ℕ → List Message) (items : ℕ → List Item)
-    (awaits : ℕ → List Message) (started : ℕ) (S : Scenario) (replies : SetupReplies)
+    (awaits : ℕ → List Message) (started : ℕ) (S : Scenario) (replies : Messages)
     (log : List LogEntry) (C : CrewState) : Type 0 where
   pub channels : (i : ℕ) (l : LinkNo) → sim_link started S i ≡ Some l
       → HasChannel S replies log i l (messages i) (items i) C
@@ -43,14 +44,14 @@ IsResting S P J = IsUnready P J
     × ((i : ℕ) → is_within S i ≡ true → (view P J).open_at i ≡ None)
 
 -- after each rest so far at which all had set up the journal got a message of a link next
-abbrev pub RestsOver : Counts → ℕ → Scenario → SetupReplies → Plan → List Entry → List LogEntry
+abbrev pub RestsOver : Counts → ℕ → Scenario → Messages → Plan → List Entry → List LogEntry
     → Type 0
 RestsOver saved started S replies P J log = (before after : List LogEntry)
     → log ≡ before ++ Rest ∷ after → AllSetUp started S before
     → (r : IsRestOf saved started S replies P J before) × BeginsOnLink started S r.more
 
 -- the same; or it has got nothing since, and no reply is kept
-abbrev pub RestsSoFar : Counts → ℕ → Scenario → SetupReplies → Plan → List Entry → List LogEntry
+abbrev pub RestsSoFar : Counts → ℕ → Scenario → Messages → Plan → List Entry → List LogEntry
     → List Arrival → Type 0
 RestsSoFar saved started S replies P J log kept = (before after : List LogEntry)
     → log ≡ before ++ Rest ∷ after → AllSetUp started S before

@@ -11,6 +11,7 @@ use Rattle.mk_plan.specs.declared.Entry.TheVariants.{Got}
 use Rattle.mk_plan.specs.Plans.{sim_count, first_id}
 use Rattle.mk_plan.specs.Journals.{Arrival, view, sent, got}
 use Rattle.mk_plan.specs.Ready.{IsDone}
+use Rattle.mk_plan.specs.Sequential.{Messages}
 use Rattle.mk_scenario.specs.declared.parts.Scenario.{Scenario}
 use Rattle.mk_outside.specs.declared.fleet.LogEntry.{LogEntry}
 use Rattle.mk_sched.specs.Cores.{Stands}
@@ -23,7 +24,7 @@ use Rattle.mk_run_laws.specs.Handshake.{setup_count, sim_link, is_within}
 use Rattle.mk_run_laws.specs.Channels.{Channel}
 use Rattle.mk_run_laws.specs.Kinds.{Replies, KeepsToKinds}
 use Rattle.mk_run_laws.specs.Crews.{CrewState, channel_at, IsHeard}
-use Rattle.mk_run_laws.specs.Running.{SetupReplies, RestsEnd}
+use Rattle.mk_run_laws.specs.Running.{RestsEnd}
 use Rattle.mk_run_laws.specs.inner.Running.{HasChannel, IsRunning}
 use Rattle.mk_run_links.specs.Entries.{AreOn, IsRunLink}
 use Rattle.mk_run_local.specs.Calls.{IsFitSuccess}
@@ -40,7 +41,7 @@ pub record Setting : Type 0 where
   pub started : ℕ
   pub scenario : Scenario
   pub rows : List Turn
-  pub replies : SetupReplies
+  pub replies : Messages
   pub plan : Plan
 
 -- what the kinds reply

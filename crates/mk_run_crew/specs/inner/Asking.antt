@@ -11,6 +11,7 @@ use Rattle.mk_outside.specs.Logs.{Adds}
 use Rattle.mk_plan.specs.declared.Call.{Call}
 use Rattle.mk_plan.specs.declared.Message.{Message}
 use Rattle.mk_plan.specs.declared.Plan.{Plan}
+use Rattle.mk_plan.specs.Sequential.{Messages}
 use Rattle.mk_scenario.specs.declared.parts.Scenario.{Scenario}
 use Rattle.mk_launch.specs.Starts.{places}
 use Rattle.mk_run_crew.specs.Attempts.{Attempt}
@@ -21,7 +22,6 @@ use Rattle.mk_run_laws.specs.Crews.{IsHeard, IsUnheard}
 use Rattle.mk_run_laws.specs.Handshake.{Request, setup_requests, call_to, call_payloads, sim_link}
 use Rattle.mk_run_laws.specs.Payloads.{IsFramed}
 use Rattle.mk_run_laws.specs.Rests.{AllSetUp, IsWellInSetup}
-use Rattle.mk_run_laws.specs.Running.{SetupReplies}
 use Rattle.mk_run_laws.specs.inner.Running.{IsBetween}
 use Rattle.mk_setup.specs.declared.fault.SetupFault.{SetupFault}
 use Rattle.mk_setup.specs.declared.fault.SetupFault.TheVariants as fault
@@ -224,7 +224,7 @@ pub record IsNewCrew (started : ℕ) (rows : List Turn) (S : Scenario) (open_lin
 -- the crew after these answers: what was heard, asked and kept is theirs, and there is no halt
 pub record IsAnswered (started : ℕ) (S : Scenario) (rows : List Turn) (log : List LogEntry)
     (answers : List Message) (C : CrewSeen) : Type 0 where
-  pub replies : SetupReplies
+  pub replies : Messages
   pub between : IsBetween started S replies log (crew C.channels)
       (take (length answers) (setup_requests S)) (drop (length answers) (setup_requests S))
   pub told : (i : ℕ) (l : LinkNo) → sim_link started S i ≡ Some l

@@ -8,6 +8,7 @@ use Rattle.mk_plan.specs.declared.Message.{Message}
 use Rattle.mk_plan.specs.declared.Entry.{Entry}
 use Rattle.mk_plan.specs.Journals.{view, sent, got, bare}
 use Rattle.mk_plan.specs.Ready.{IsReady}
+use Rattle.mk_plan.specs.Sequential.{Messages}
 use Rattle.mk_scenario.specs.declared.parts.Scenario.{Scenario}
 use Rattle.mk_outside.specs.declared.fleet.LogEntry.{LogEntry}
 use Rattle.mk_outside.specs.declared.fleet.LogEntry.TheVariants.{Rest}
@@ -16,10 +17,10 @@ use Rattle.mk_run_laws.specs.Channels.{Channel, IsChannelAt}
 use Rattle.mk_run_laws.specs.Kinds.{Replies, KeepsToKinds}
 use Rattle.mk_run_laws.specs.Rests.{AllSetUp, IsWellInSetup}
 use Rattle.mk_run_laws.specs.Crews.{CrewState, channel_at, kept_of}
-use Rattle.mk_run_laws.specs.Running.{SetupReplies, IsInStep, IsRestOf, BeginsOnLink}
+use Rattle.mk_run_laws.specs.Running.{IsInStep, IsRestOf, BeginsOnLink}
 
 -- the channel is there, and has given what the journal got and was sent
-pub record HasChannel (S : Scenario) (replies : SetupReplies) (log : List LogEntry) (i : ℕ)
+pub record HasChannel (S : Scenario) (replies : Messages) (log : List LogEntry) (i : ℕ)
     (l : LinkNo) (messages : List Message) (items : List Item) (C : CrewState) : Type 0 where
   pub channel : Channel
   pub there : channel_at C i ≡ Some channel
@@ -33,14 +34,14 @@ awaited S reply P J i = if is_within S i && is_some ((view P J).open_at i)
     then reply i (map bare (sent J i)) ∷ [] else []
 
 -- each rest at which all had set up is one of the journal, and after it a message of a link came
-abbrev pub RestsOver : ℕ → Scenario → SetupReplies → Plan → List Entry → List LogEntry → Type 0
+abbrev pub RestsOver : ℕ → Scenario → Messages → Plan → List Entry → List LogEntry → Type 0
 RestsOver started S replies P J log = (before after : List LogEntry) → log ≡ before ++ Rest ∷ after
     → AllSetUp started S before
     → (r : IsRestOf started S replies P J before) × BeginsOnLink started S r.more
 
 -- the crew and the journal J have come about together over the log, and these replies are kept
 pub record IsRunningWith (awaits : ℕ
-    → List Message) (started : ℕ) (S : Scenario) (replies : SetupReplies) (reply : Replies)
+    → List Message) (started : ℕ) (S : Scenario) (replies : Messages) (reply : Replies)
     (P : Plan) (J : List Entry) (log : List LogEntry) (C : CrewState) : Type 0 where
   pub channels : (i : ℕ) (l : LinkNo) → sim_link started S i ≡ Some l
       → HasChannel S replies log i l (got J i) (sent J i) C
@@ -50,7 +51,7 @@ pub record IsRunningWith (awaits : ℕ
   pub rests : RestsOver started S replies P J log
 
 -- and these are the replies that are awaited
-abbrev pub IsRunning : ℕ → Scenario → SetupReplies → Replies → Plan → List Entry → List LogEntry
+abbrev pub IsRunning : ℕ → Scenario → Messages → Replies → Plan → List Entry → List LogEntry
     → CrewState → Type 0
 IsRunning started S replies reply P J = IsRunningWith
     (awaited S reply P J) started S replies reply P J
@@ -61,7 +62,7 @@ IsUnready P J = (i : ℕ) (x : Tier) → IsReady P (view P J) i x → ⊥
 
 -- while the handshake goes on: these requests were queued, whose replies have come, and then one
 -- whose reply is awaited; others come later
-pub record IsSettingUp (started : ℕ) (S : Scenario) (replies : SetupReplies) (log : List LogEntry)
+pub record IsSettingUp (started : ℕ) (S : Scenario) (replies : Messages) (log : List LogEntry)
     (C : CrewState) (done : List Request) (now : Request) (later : List Request) : Type 0 where
   pub parts : setup_requests S ≡ done ++ now ∷ later
   pub linked : (l : LinkNo) × (sim_link started S now.sim ≡ Some l)
@@ -74,7 +75,7 @@ pub record IsSettingUp (started : ℕ) (S : Scenario) (replies : SetupReplies) (
 
 -- between two requests of the handshake: these were queued and answered, and at each rest so far
 -- the handshake's clause stood and not all had replied
-pub record IsBetween (started : ℕ) (S : Scenario) (replies : SetupReplies) (log : List LogEntry)
+pub record IsBetween (started : ℕ) (S : Scenario) (replies : Messages) (log : List LogEntry)
     (C : CrewState) (done later : List Request) : Type 0 where
   pub parts : setup_requests S ≡ done ++ later
   pub counts : (i : ℕ) (l : LinkNo) → sim_link started S i ≡ Some l
