@@ -21,8 +21,8 @@ left_not A J given left =
 
 -- what is kept isn't lost
 kept_not : (A : List Arrival) (J : List Entry) (end : ReplayEnd) → HasAllMessages A J end → IsLost A J end → ⊥
-kept_not A J ends.Done kept lost = left_not A J kept lost
-kept_not A J (ends.Short n) kept lost = left_not A J kept lost
+kept_not A J ends.Done kept lost = absurd lost
+kept_not A J (ends.Short n) kept lost = absurd lost
 kept_not A J (ends.Core fault) kept lost = left_not A J kept lost
 kept_not A J (ends.Other n) kept lost = absurd kept
 

@@ -22,10 +22,11 @@ HasAllMessages A J (ends.Short n) = arrivals J ≡ A
 HasAllMessages A J (ends.Core fault) = arrivals J ≡ A
 HasAllMessages A J (ends.Other n) = ⊥
 
--- an entry of the record differs, or one of its messages isn't in the journal
+-- an entry of the record differs, or a fault ended its replay before all its messages were in the
+-- journal; a replay that comes to its end, or lacks a message alone, has them all
 abbrev pub IsLost : List Arrival → List Entry → ReplayEnd → Type 0
-IsLost A J ends.Done = SomeUngiven A J
-IsLost A J (ends.Short n) = SomeUngiven A J
+IsLost A J ends.Done = ⊥
+IsLost A J (ends.Short n) = ⊥
 IsLost A J (ends.Core fault) = SomeUngiven A J
 IsLost A J (ends.Other n) = ⊤
 
