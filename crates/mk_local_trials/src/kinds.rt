@@ -11,7 +11,7 @@ use mk_base::{Datum, Json, List, Mem, Members, Text, Tier};
 use mk_json::{datum, read_json};
 use mk_local::{
     EntityStep, EntityTurn, Kind, LocalSim, Registry, Turn, battery_turn, constant_turn,
-    controller_turn, counter_turn, relay_turn, sum_turn,
+    controller_turn, counter_turn, relay_turn, sum_turn, turn_of,
 };
 use mk_plan::{Call, Input, Item, Message, Want};
 use std::alloc::Global;
@@ -355,16 +355,16 @@ fn is_turned(row: TurnRow) -> bool {
         seen,
         sum,
     };
-    turned(turn, step)
-        == EntityTurn {
-            state,
-            out,
-            next,
-            at,
-        }
+    let wanted = EntityTurn {
+        state,
+        out,
+        next,
+        at,
+    };
+    turned(turn, step) == wanted && turn_of(turn, step) == wanted
 }
 
-const TURNS: [TurnRow; 9] = [
+const TURN_ROWS: [TurnRow; 9] = [
     (Turn::Constant, true, 9, 5, Some(7), Some(14), None),
     (Turn::Counter, false, 0, 5, Some(17), Some(14), None),
     (Turn::Sum, true, 9, 5, Some(16), Some(14), None),
@@ -377,15 +377,15 @@ const TURNS: [TurnRow; 9] = [
 ];
 
 fn count_turned() -> usize {
-    for (place, row) in TURNS.iter().enumerate() {
+    for (place, row) in TURN_ROWS.iter().enumerate() {
         if !is_turned(*row) {
             return place;
         }
     }
-    TURNS.len()
+    TURN_ROWS.len()
 }
 
 #[test]
 fn an_entity_of_each_kind_takes_its_turn(rt: HostRuntime) {
-    assert_eq!(rt; count_turned(), TURNS.len());
+    assert_eq!(rt; count_turned(), TURN_ROWS.len());
 }
