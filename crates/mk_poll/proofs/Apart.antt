@@ -1,12 +1,12 @@
 -- Links stand once each.
-use Rattle.std.proofs.Common.{◌≡◌, ℕ, ◌+◌, ◌≤◌, inl, inr, Bool, true, false, not, cond, List, [], ◌∷◌, ◌++◌, refl, sym, ap, ◌∙◌, arith, subst, true≢false, if◌then◌else◌}
+use Rattle.std.proofs.Common.{◌≡◌, ℕ, ◌+◌, ◌≤◌, inl, inr, Bool, true, false, not, cond, List, [], ◌∷◌, ◌++◌, refl, sym, ap, ◌∙◌, arith, subst, true≢false}
 use Rattle.std.proofs.lemmas.Bool.{eqb-true}
 use Rattle.std.specs.List.{list_any}
 use Rattle.mk_base.specs.declared.LinkNo.{LinkNo}
 use Rattle.mk_base.specs.Lists.{IsIn}
 use Rattle.mk_base.specs.Links.{same_link, without}
 use Rattle.mk_poll.specs.Turning.{Turning}
-use Rattle.mk_poll.specs.Links.{times_in, IsAdded, IsApart, added, made_parked, made_ready}
+use Rattle.mk_poll.specs.Links.{times_in, IsAdded, IsApart, added, made_parked}
 use Rattle.mk_poll.proofs.OnLinks.{found}
 use Rattle.mk_base.proofs.Counts.{same_self}
 
@@ -53,7 +53,7 @@ times-in l (x ∷ xs) (inl here) =
     omega (arith, times-cons l x xs, same)
 times-in l (x ∷ xs) (inr there) = omega (arith, times-cons l x xs, times-in l xs there)
 
-same_true : (x l : LinkNo) → same_link x l ≡ true → x ≡ l
+pub same_true : (x l : LinkNo) → same_link x l ≡ true → x ≡ l
 same_true x l e = ap (λ (n : ℕ). let link : LinkNo = record { 0 = n } in link) (eqb-true x.0 l.0 e)
 
 -- a link that isn't there never stands
@@ -64,7 +64,7 @@ times-none l (x ∷ xs) away = elim (same_link x l) as (λ b. same_link x l ≡ 
   | false ↦ λ e. omega (arith, times-cons l x xs, ap once e, times-none l xs (λ h. away (inr h)))
 ] refl
 
-unlisted : (l : LinkNo) (xs : List LinkNo) → list_any (λ other. same_link other l) xs ≡ false → IsIn l xs → ⊥
+pub unlisted : (l : LinkNo) (xs : List LinkNo) → list_any (λ other. same_link other l) xs ≡ false → IsIn l xs → ⊥
 unlisted l xs none there = true≢false (sym (found l xs there) ∙ none)
 
 -- a new link is added
@@ -76,24 +76,6 @@ apart_added k t new apart l = elim (same_link k l) as (λ b. same_link k l ≡ b
   where
     here : times_in k (t.ready ++ k ∷ []) + (times_in k t.taken + times_in k t.parked) ≤ 1
     here = omega (arith, times-push k k t.ready, ap once (same_self k.0), times-none k t.ready (λ h. new (inl h)), times-none k t.taken (λ h. new (inr (inl h))), times-none k t.parked (λ h. new (inr (inr h))))
-
--- a link that wasn't ready becomes so
-pub apart_ready : (k : LinkNo) (t : Turning) → list_any (λ other. same_link other k) t.ready ≡ false → IsApart t
-    → IsApart (record { ready = t.ready ++ k ∷ []; taken = without k t.taken; parked = without k t.parked })
-apart_ready k t none apart l = elim (same_link k l) as (λ b. same_link k l ≡ b → times_in l (t.ready ++ k ∷ []) + (times_in l (without k t.taken) + times_in l (without k t.parked)) ≤ 1) [
-  | true ↦ λ e. subst (λ (x : LinkNo). times_in x (t.ready ++ k ∷ []) + (times_in x (without k t.taken) + times_in x (without k t.parked)) ≤ 1) (same_true k l e) here
-  | false ↦ λ e. omega (arith, times-push l k t.ready, ap once e, times-without l k t.taken, times-without l k t.parked, apart l)
-] refl
-  where
-    here : times_in k (t.ready ++ k ∷ []) + (times_in k (without k t.taken) + times_in k (without k t.parked)) ≤ 1
-    here = omega (arith, times-push k k t.ready, ap once (same_self k.0), times-none k t.ready (unlisted k t.ready none), times-gone k t.taken, times-gone k t.parked)
-
--- the same, where a ready link stays
-pub apart_made_ready : (k : LinkNo) (t : Turning) → IsApart t → IsApart (made_ready k t)
-apart_made_ready k t apart = elim (list_any (λ (other : LinkNo). same_link other k) t.ready) as (λ b. list_any (λ (other : LinkNo). same_link other k) t.ready ≡ b → IsApart (if b then t else (record { ready = t.ready ++ k ∷ []; taken = without k t.taken; parked = without k t.parked }))) [
-  | true ↦ λ e. apart
-  | false ↦ λ e. apart_ready k t e apart
-] refl
 
 -- the first ready link is taken
 pub apart_took : (k : LinkNo) (rest : List LinkNo) (t : Turning) → t.ready ≡ k ∷ rest → IsApart t
@@ -110,7 +92,7 @@ apart_parked k t there apart l = elim (same_link k l) as (λ b. same_link k l �
     here : times_in k t.ready + (times_in k (without k t.taken) + times_in k (t.parked ++ k ∷ [])) ≤ 1
     here = omega (arith, times-push k k t.parked, ap once (same_self k.0), times-in k t.taken there, times-gone k t.taken, apart k)
 
-never_twice : (b : Bool) → once b ≡ 0 → b ≡ false
+pub never_twice : (b : Bool) → once b ≡ 0 → b ≡ false
 never_twice true e = absurd (omega arith)
 never_twice false e = refl
 

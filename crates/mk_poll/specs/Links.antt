@@ -29,13 +29,29 @@ IsApart t = (link : LinkNo)
 abbrev pub added : LinkNo → Turning → Turning
 added link t = record { ready = t.ready ++ link ∷ []; taken = t.taken; parked = t.parked }
 
+-- the link behind the first of these
+abbrev pub second : LinkNo → List LinkNo → List LinkNo
+second link [] = link ∷ []
+second link (first ∷ more) = first ∷ link ∷ more
+
+-- the last of the links, and then the others in their order
+abbrev pub last_first : List LinkNo → List LinkNo
+last_first [] = []
+last_first (link ∷ more) = second link (last_first more)
+
+-- the links without this one, in whose place the last of them stands
+abbrev pub lifted : LinkNo → List LinkNo → List LinkNo
+lifted link [] = []
+lifted link (other ∷ more) = if same_link other link then last_first more
+    else other ∷ lifted link more
+
 -- a ready link stays in its place; another one becomes the last that is ready
 abbrev pub made_ready : LinkNo → Turning → Turning
 made_ready link t = if list_any (λ other. same_link other link) t.ready then t
     else record {
       ready = t.ready ++ link ∷ [];
       taken = without link t.taken;
-      parked = without link t.parked;
+      parked = lifted link t.parked;
     }
 
 -- a taken link, parked

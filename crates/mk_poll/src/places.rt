@@ -5,17 +5,16 @@ ghost use Rattle.mk_base.specs.Links.{same_link, without};
 ghost use Rattle.mk_poll.specs.Links.{times_in};
 
 use mk_base::LinkNo;
-use std::collections::VecDeque;
 
 // The link is among them.
-pub fn holds(links: &VecDeque<LinkNo>, link: LinkNo) -> bool
-    ensures { result ≡ list_any (λ other. same_link other link) links.now.items }
+pub fn holds(links: &[LinkNo], link: LinkNo) -> bool
+    ensures { result ≡ list_any (λ other. same_link other link) links.now }
 {
     links.iter().any(|other| other.0 == link.0)
 }
 
 // Takes a link off, if it is there.
-pub fn leave(links: &mut Vec<LinkNo>, link: LinkNo)
+fn leave(links: &mut Vec<LinkNo>, link: LinkNo)
     ensures left { links.new.items ≡ without link links.old.items }
     ensures room { vec_capacity links.new ≡ vec_capacity links.old }
 {

@@ -3,7 +3,8 @@ ghost use Rattle.std.specs.Prelude.{◌≡◌, OnOk, OnErr};
 ghost use Rattle.mk_base.specs.Lists.{IsIn};
 ghost use Rattle.mk_poll.specs.Links.{IsAdded, IsApart, TakeOf, added, made_parked, made_ready, no_links};
 
-use crate::places::{holds, leave, leave_last};
+use crate::places::{holds, leave_last};
+use crate::spots::{lift, make_spot, park, spot_of};
 use mk_base::{LinkNo, Mem};
 use std::alloc::Global;
 use std::collections::VecDeque;
@@ -16,6 +17,8 @@ pub struct Turns {
     ready: VecDeque<LinkNo>,
     taken: Vec<LinkNo>,
     parked: Vec<LinkNo>,
+    // Of each link, by its number, where it stands among those that are parked.
+    spots: Vec<Option<usize>>,
     // How many links were added. Each of the three has room for all of them.
     count: u32,
 }
@@ -25,7 +28,7 @@ impl Model for Turns {
     ghost use Rattle.std.specs.VecDeque.{deque_capacity};
     ghost use Rattle.mk_poll.specs.Turning.{Turning};
     ghost use Rattle.mk_poll.specs.Links.{IsApart};
-    ghost use Rattle.mk_poll.specs.inner.Links.{HasRoom};
+    ghost use Rattle.mk_poll.specs.inner.Links.{HasRoom, HaveSpots};
 
     ghost Value = { Turning };
 
@@ -38,7 +41,12 @@ impl Model for Turns {
     ghost invariant = { λ a. HasRoom a.count (length a.ready.items) (length a.taken.items)
         (length a.parked.items) (deque_capacity a.ready) (vec_capacity a.taken)
         (vec_capacity a.parked)
-        × IsApart (record { ready = a.ready.items; taken = a.taken.items; parked = a.parked.items }) };
+        × IsApart (record { ready = a.ready.items; taken = a.taken.items; parked = a.parked.items })
+        × HaveSpots a.spots.items (record {
+          ready = a.ready.items;
+          taken = a.taken.items;
+          parked = a.parked.items;
+        }) };
 }
 
 impl Turns {
@@ -50,6 +58,7 @@ impl Turns {
             ready: VecDeque::new(alloc),
             taken: Vec::new(alloc),
             parked: Vec::new(alloc),
+            spots: Vec::new(alloc),
             count: 0,
         }
     }
@@ -68,23 +77,28 @@ impl Turns {
         self.ready.reserve(count as usize)?;
         self.taken.reserve(count as usize)?;
         self.parked.reserve(count as usize)?;
+        make_spot(&mut self.spots, link)?;
         self.count = count;
         self.ready.push_back_reserved(link);
         Ok(())
     }
 
-    /// Makes a link ready; one that is ready stays in its place. It takes no memory.
+    /// Makes a link ready; one that is ready stays in its place. It takes no memory, and looks at no other link but at
+    /// those that are taken.
     pub fn ready(&mut self, link: LinkNo)
         requires { IsAdded link self.old }
         ensures ready { self.new ≡ made_ready link self.old }
         ensures apart { IsApart self.new }
     {
-        if holds(&self.ready, link) {
+        if let Some(place) = spot_of(&self.spots, link) {
+            lift(&mut self.parked, &mut self.spots, link, place);
+            self.ready.push_back_reserved(link);
             return;
         }
-        leave(&mut self.taken, link);
-        leave(&mut self.parked, link);
-        self.ready.push_back_reserved(link);
+        if holds(&self.taken, link) {
+            leave_last(&mut self.taken, link);
+            self.ready.push_back_reserved(link);
+        }
     }
 
     /// Takes the link that has been ready for longest; `None` exactly where none is ready. It takes no memory.
@@ -104,7 +118,7 @@ impl Turns {
         ensures apart { IsApart self.new }
     {
         leave_last(&mut self.taken, link);
-        self.parked.push_reserved(link);
+        park(&mut self.parked, &mut self.spots, link);
     }
 
     /// The links that are parked.

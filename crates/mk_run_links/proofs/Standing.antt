@@ -3,10 +3,11 @@ use Rattle.std.proofs.Common.{◌≡◌, ◌<◌, ℕ, arith, length, inl, inr, 
 use Rattle.std.specs.List.{list_any}
 use Rattle.mk_base.specs.declared.LinkNo.{LinkNo}
 use Rattle.mk_base.specs.Lists.{IsIn}
-use Rattle.mk_base.proofs.Lists.{some_same, in_front, in_back, filter_in, some_passes}
+use Rattle.mk_base.proofs.Lists.{some_same, in_front, in_back, some_passes}
 use Rattle.mk_base.specs.Links.{same_link, without}
 use Rattle.mk_poll.specs.Turning.{Turning}
-use Rattle.mk_poll.specs.Links.{made_parked, made_ready, IsAdded, TakeOf}
+use Rattle.mk_poll.specs.Links.{lifted, made_parked, made_ready, IsAdded, TakeOf}
+use Rattle.mk_poll.proofs.Lifting.{in_lifted}
 use Rattle.mk_outside.specs.declared.fleet.LogEntry.{LogEntry}
 use Rattle.mk_session.specs.declared.answers.Heard.{Heard}
 use Rattle.mk_session.specs.declared.answers.Polled.{Polled}
@@ -101,7 +102,7 @@ ready_stand s v M t l but here on = elim (list_any (λ (other : LinkNo). same_li
 ] refl
   where
     moved : Turning
-    moved = record { ready = t.ready ++ l ∷ []; taken = without l t.taken; parked = without l t.parked }
+    moved = record { ready = t.ready ++ l ∷ []; taken = without l t.taken; parked = lifted l t.parked }
 
     there : list_any (λ (other : LinkNo). same_link other l) t.ready ≡ true → IsIn l t.ready
     there e =
@@ -115,7 +116,7 @@ ready_stand s v M t l but here on = elim (list_any (λ (other : LinkNo). same_li
     goes_on u (inl ready) = inl (in_front u.link t.ready (l ∷ []) ready)
     goes_on u (inr parked) = elim (same_or_not (u.link).0 l.0) [
       | inl q ↦ inl (in_back u.link t.ready (l ∷ []) (inl (same_number u.link l q)))
-      | inr apart ↦ inr (parked.0, filter_in (λ (other : LinkNo). not (same_link other l)) u.link t.parked parked.1 (ap not (not_same (u.link).0 l.0 apart)))
+      | inr apart ↦ inr (parked.0, in_lifted u.link l t.parked parked.1 (not_same (u.link).0 l.0 apart))
     ]
 
 -- ---- the calls
