@@ -29,7 +29,7 @@ use Rattle.mk_run_crew.specs.Seen.{CrewSeen, crew_of, is_here}
 use Rattle.mk_run_crew.specs.Calls.{SendsAs}
 use Rattle.mk_run.specs.inner.Sendings.{CanTake}
 use Rattle.mk_run.specs.inner.Underway.{Setting, local_at, put, reply_in}
-use Rattle.mk_run.proofs.Going.{bool_or_not, here_is_within}
+use Rattle.mk_run.proofs.Going.{here_is_within}
 use Rattle.mk_run.proofs.Linked.{linked_outside}
 use Rattle.mk_run.proofs.ItemSent.{come_sent, kept_so, no_other_after, not_here_is_outside, only_sent, some_here}
 use Rattle.mk_run.proofs.Putting.{put_away, put_here}
@@ -46,6 +46,7 @@ use Rattle.mk_pace_loop.proofs.HeldFirst.{IsFront}
 use Rattle.mk_pace_loop.proofs.Queueing.{channel_sent}
 use Rattle.mk_base.proofs.Counts.{not_same, same_or_not, same_self}
 use Rattle.mk_local.proofs.Replied.{replied_takes}
+use Rattle.mk_base.proofs.Bools.{true_or_false}
 
 not_nil : {X : Type 0} {x : X} {xs : List X} → [] ≡ x ∷ xs → ⊥
 not_nil e = cc
@@ -108,7 +109,7 @@ module _ (S : Setting) (T : Tempo) (strict : Option ℕ) (P : Plan) (J : List En
     stay i apart = put_away p.queued s (p.queued s ++ item ∷ []) i apart
 
     by_place : {Z : Type 0} → (is_here C s ≡ true → Z) → (is_here C s ≡ false → Z) → Z
-    by_place within on_link = elim (bool_or_not (is_here C s)) [ inl here ↦ within here | inr away ↦ on_link away ]
+    by_place within on_link = elim (true_or_false (is_here C s)) [ inl here ↦ within here | inr away ↦ on_link away ]
 
     -- ---- channels
 

@@ -27,7 +27,6 @@ use Rattle.mk_run_local.specs.Laws.{RepliesAreKinds}
 use Rattle.mk_run_crew.specs.Seen.{CrewSeen, crew_of, is_here}
 use Rattle.mk_run_crew.specs.Calls.{HasNext, SendsAs}
 use Rattle.mk_run.specs.inner.Underway.{Setting, reply_in, exchange_at}
-use Rattle.mk_run.proofs.Going.{bool_or_not}
 use Rattle.mk_run.proofs.LoopSteps.{asked_opens, asked_id, asked_ready}
 use Rattle.mk_sched.proofs.Pushed.{fault_after_sent, patient_sent}
 use Rattle.mk_run.proofs.Pushed.{range_sent}
@@ -43,6 +42,7 @@ use Rattle.mk_resume_loop.specs.inner.Underway.{IsResuming, saved_of}
 use Rattle.mk_run.proofs.ItemSent.{come_as, come_sent, kept_so, no_other_after, not_here_is_outside, only_sent}
 use Rattle.mk_run.proofs.SmallIds.{few_more, few_sent, small_next}
 use Rattle.mk_base.proofs.Counts.{same_or_not}
+use Rattle.mk_base.proofs.Bools.{true_or_false}
 
 -- ---- beginnings
 
@@ -150,7 +150,7 @@ module _ (T : Setting) (old new : CoreState) (first : List Entry) (heard : Count
       stay i apart = free_sent_away J s item i (heard i) apart
 
       catching : IsCatching (saved_of first) (exchange_at T log) T.replies P K heard (crew_of D)
-      catching = elim (bool_or_not (is_here C s.0)) [
+      catching = elim (true_or_false (is_here C s.0)) [
         | inl here ↦ let t = kept_so T law (λ i. free_items J i (heard i)) (λ i. free_items K i (heard i)) s.0 item id C D more stay u.come u.only_within (λ h. right) so here in
             asked_within (saved_of first) T.started T.scenario T.replies (reply_in T) P J heard log (crew_of C) (crew_of D) s item a.at u.catching ready few
             all_free t.0 t.1

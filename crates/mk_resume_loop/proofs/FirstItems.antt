@@ -16,7 +16,6 @@ use Rattle.mk_sched.specs.Cores.{CoreState}
 use Rattle.mk_run_laws.specs.Handshake.{is_within}
 use Rattle.mk_run_crew.specs.Seen.{CrewSeen, crew_of}
 use Rattle.mk_run.specs.inner.Underway.{Setting, put, reply_in}
-use Rattle.mk_run.proofs.Going.{bool_or_not}
 use Rattle.mk_run.proofs.Linked.{within_below}
 use Rattle.mk_resume_walk.specs.Talks.{free_items}
 use Rattle.mk_resume_walk.proofs.GoingOn.{walk_laws}
@@ -30,6 +29,7 @@ use Rattle.mk_resume_loop.proofs.Beginning.{first_above, first_below, first_here
 use Rattle.mk_resume_loop.proofs.Passing.{awaited_outside, resuming_as}
 use Rattle.mk_base.proofs.Counts.{same_or_not}
 use Rattle.mk_base.proofs.Items.{not_empty}
+use Rattle.mk_base.proofs.Bools.{true_or_false}
 
 front_of : {X : Type 0} (k : ℕ) (f : ℕ → List X) (i : ℕ) → BeginsWith (f i) (first_of k f i)
 front_of k f i = elim (nat_lt i k) as (λ b. BeginsWith (f i) (if b then f i else [])) [ true ↦ ([], sym (append_nil (f i))) | false ↦ (f i, refl) ]
@@ -157,7 +157,7 @@ all_begun core C D B k all sized so_far T log starting over = (
     t = so_far T log starting over
 
     none : (i : ℕ) → (i < sim_count core.plan → ⊥) → awaited T.scenario (reply_in T) core.entries (λ i. 0) i ≡ []
-    none i high = elim (bool_or_not (is_within T.scenario i)) [
+    none i high = elim (true_or_false (is_within T.scenario i)) [
       | inl inside ↦ absurd (high (subst (λ (n : ℕ). i < n) (sym starting.suits.sims) (within_below T.scenario i inside)))
       | inr outside ↦ awaited_outside T.scenario (reply_in T) core.entries (λ i. 0) i outside
     ]

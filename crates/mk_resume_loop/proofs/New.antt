@@ -31,7 +31,7 @@ use Rattle.mk_run_local.specs.Laws.{RepliesAreKinds}
 use Rattle.mk_run_crew.specs.Seen.{CrewSeen, crew_of, is_here}
 use Rattle.mk_run_crew.specs.Calls.{HasNext, SendsAs}
 use Rattle.mk_run.specs.inner.Underway.{HaveComeBy, Setting, reply_in, exchange_at}
-use Rattle.mk_run.proofs.Going.{bool_or_not, here_is_within}
+use Rattle.mk_run.proofs.Going.{here_is_within}
 use Rattle.mk_run.proofs.LoopSteps.{answered_id, answered_opens, none_owed, owed_after}
 use Rattle.mk_sched.proofs.Pushed.{fault_after_sent, patient_got, patient_sent}
 use Rattle.mk_run.proofs.Pushed.{range_got, range_sent}
@@ -50,6 +50,7 @@ use Rattle.mk_resume_loop.proofs.Hearing.{met_back, met_fits, met_low, met_no_ot
 use Rattle.mk_run.proofs.ItemSent.{come_as, come_sent, kept_so, no_other_after, not_here_is_outside, only_sent}
 use Rattle.mk_run.proofs.SmallIds.{few_behind, small_next}
 use Rattle.mk_base.proofs.Counts.{same_or_not}
+use Rattle.mk_base.proofs.Bools.{true_or_false}
 
 one_behind : (k n : ℕ) → (k ≡ n) ⊎ (k ≡ n + 1) → n < k → k ≡ n + 1
 one_behind k n (inl p) more = absurd (omega (arith, p, more))
@@ -221,7 +222,7 @@ module _ (T : Setting) (core new : CoreState) (first : List Entry) (heard : Coun
         next_id l linked w there takes = let g = channel_now l linked in numbered id opened takes ∙ sym g.2 ∙ ap (λ (x : Channel). x.next) (some_same (sym g.1 ∙ there))
 
         inside_kept : is_within T.scenario s.0 ≡ true → IsSentWithin s.0 (reply_in T s.0 (map bare (free_items after s.0 (heard s.0 + 1)))) (crew_of C) (crew_of D)
-        inside_kept inside = elim (bool_or_not (is_here C s.0)) [
+        inside_kept inside = elim (true_or_false (is_here C s.0)) [
           | inl here ↦ subst (λ (n : ℕ). IsSentWithin s.0 (reply_in T s.0 (map bare (free_items after s.0 n))) (crew_of C) (crew_of D)) (more_here heard s.0) (kept_so T law free free_then s.0 a.item id C D more stay v.come v.only_within right so here).1
           | inr away ↦ absurd (true≢false (sym inside ∙ not_here_is_outside T free C.sims s.0 v.come away))
         ]
@@ -239,7 +240,7 @@ module _ (T : Setting) (core new : CoreState) (first : List Entry) (heard : Coun
             (so.on_link (outside k.0 k.1)).0 (next_id k.0 k.1)
           where
             outside : (l : LinkNo) → sim_link T.started T.scenario s.0 ≡ Some l → is_here C s.0 ≡ false
-            outside l linked = elim (bool_or_not (is_here C s.0)) [
+            outside l linked = elim (true_or_false (is_here C s.0)) [
               | inl here ↦ absurd (true≢false (sym (here_is_within T C.sims s.0 v.only_within here) ∙ linked_out T.started T.scenario s.0 l linked))
               | inr away ↦ away
             ]

@@ -23,7 +23,6 @@ use Rattle.mk_run_local.specs.Laws.{HasCome, RepliesAreKinds}
 use Rattle.mk_run_crew.specs.Seen.{CrewSeen, crew_of, is_here}
 use Rattle.mk_run_crew.specs.Calls.{HasNext, SendsAs}
 use Rattle.mk_run.specs.inner.Underway.{Setting, put, reply_in, exchange_at}
-use Rattle.mk_run.proofs.Going.{bool_or_not}
 use Rattle.mk_run.proofs.Linked.{linked_outside, within_below}
 use Rattle.mk_resume_walk.specs.Talks.{free_items}
 use Rattle.mk_resume_links.specs.Rests.{Counts}
@@ -35,7 +34,7 @@ use Rattle.mk_run.proofs.Putting.{put_away, put_here, put_same}
 use Rattle.mk_run.proofs.SmallIds.{few_sent, small_next}
 use Rattle.mk_resume_loop.specs.inner.Underway.{IsPassed, IsPassing, IsResumingWith, course_of, saved_of}
 use Rattle.mk_base.proofs.Counts.{equal_at_most, none_below, same_or_not}
-use Rattle.mk_base.proofs.Bools.{and_false}
+use Rattle.mk_base.proofs.Bools.{and_false, true_or_false}
 
 -- ---- what is awaited of a simulator
 
@@ -121,7 +120,7 @@ module _ (T : Setting) (P : Plan) (first J : List Entry) (heard : Counts) (X : �
     long = let a = ap length is ∙ length-append (X s) (item ∷ []) in let b = p.answered in omega (arith, a, b)
 
     catching : IsCatchingWith Y B (saved_of first) (exchange_at T log) T.replies P J heard (crew_of D)
-    catching = elim (bool_or_not (is_here C s)) [ inl here ↦ inside here | inr away ↦ outside away ]
+    catching = elim (true_or_false (is_here C s)) [ inl here ↦ inside here | inr away ↦ outside away ]
       where
         inside : is_here C s ≡ true → IsCatchingWith Y B (saved_of first) (exchange_at T log) T.replies P J heard (crew_of D)
         inside here =

@@ -41,7 +41,7 @@ use Rattle.mk_run.specs.Ends.{AreInRange, IsOpenWithin}
 use Rattle.mk_sched.specs.inner.Patient.{IsPatient}
 use Rattle.mk_run.specs.inner.Underway.{Setting, reply_in, Suits, HasNoOther, HaveCome, IsLogRight, IsUnderway, HasHeard, IsAhead}
 use Rattle.mk_run.proofs.LoopSteps.{none_owed, owed_after, answered_opens, answered_id, taken_quietly, taken_on_link, taken_inside}
-use Rattle.mk_run.proofs.Going.{bool_or_not, here_is_within, not_here_is_outside, kept_so, come_sent, only_sent, log_right_on, no_other_after}
+use Rattle.mk_run.proofs.Going.{here_is_within, not_here_is_outside, kept_so, come_sent, only_sent, log_right_on, no_other_after}
 use Rattle.mk_run.proofs.InRange.{success_in_range}
 use Rattle.mk_run.proofs.Linked.{linked_outside, within_below, no_other_heard}
 use Rattle.mk_sched.proofs.Pushed.{patient_sent, patient_got, fault_after_sent}
@@ -49,6 +49,7 @@ use Rattle.mk_run.proofs.Pushed.{range_sent, range_got}
 use Rattle.mk_run.proofs.SmallIds.{few_behind, small_next}
 use Rattle.mk_base.proofs.Counts.{same_self}
 use Rattle.mk_plan.specs.Messages.{is_message_in_range}
+use Rattle.mk_base.proofs.Bools.{true_or_false}
 
 -- a reply that is kept is awaited of a simulator within the program, at which a request is open
 kept_awaited : (S : Scenario) (reply : Replies) (P : Plan) (J : List Entry) (s : ℕ) (m : Message) (kept more : List Arrival) → kept_of s kept ≡ awaited S reply P J s → kept ≡ record { sim = s; message = m } ∷ more
@@ -212,7 +213,7 @@ module _ (T : Setting) (core new : CoreState) (log : List LogEntry) (s : SimNo) 
     right here = numbered id opened (subst (λ (item : Item). takes_id item ≡ true) (sym (owed_within here)) refl)
 
     running : IsRunning T.started T.scenario T.replies (reply_in T) new.plan new.entries (h.before ++ h.entries) (crew_of D)
-    running = elim (bool_or_not (is_here C s.0)) [
+    running = elim (true_or_false (is_here C s.0)) [
       | inl here ↦ let t = kept_so T law (core.entries ++ Got s m ∷ []) s a.item id C D come v.only_within right so here in
           taken_inside T.started T.scenario T.replies (reply_in T) core new h.before h.entries h.crew (crew_of C) (crew_of D) s m v.stands v.running h.nobody h.heard (λ w there. v.no_other s.0 w there) a t.0
           (subst (λ (c : CoreState). IsSentWithin s.0 (reply_in T s.0 (map bare (sent c.entries s.0))) (crew_of C) (crew_of D)) (sym a.moved) t.1)

@@ -1,7 +1,7 @@
 -- Answers to the goals of `outlets::joined` that the prover leaves.
 use Rattle.std.proofs.Common.{sym, subst}
 use Rattle.mk_buffers.specs.inner.Building.{AreSources}
-use Rattle.mk_buffers.proofs.Putting.{if_ok}
+use Rattle.mk_base.proofs.Items.{if_ok}
 use Rattle.mk_buffers.proofs.outlets.joined.Goals as goal
 
 pub filled-requires-clause-sources : goal.filled-requires-clause-sources
