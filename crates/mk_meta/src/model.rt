@@ -1,13 +1,14 @@
 //! The tests of a model's description.
-ghost use Rattle.std.specs.Prelude.{◌≡◌, None, IfOk, Ok, Err, option_map, if◌then◌else◌};
+ghost use Rattle.std.specs.Prelude.{◌≡◌, None, true, IfOk, Ok, Err, option_map};
 ghost use Rattle.mk_meta.specs.Metadata.{first_unknown, model_in, with_known};
+ghost use Rattle.mk_meta.specs.inner.Named.{named_unknown};
 ghost use Rattle.mk_meta.specs.declared.fault.MetaFault.TheVariants as fault;
 
 use crate::fault::MetaFault;
 use crate::meta::ModelMeta;
 use crate::texts::{Texts, texts_of};
 use crate::trees::{bool_at, bool_or_false, hybrid_texts, texts_at};
-use mk_base::{Json, List, Mem, SimKind, Text};
+use mk_base::{Json, Mem, SimKind, Text};
 use std::alloc::Global;
 
 // The model of this name and description, or the first test that it fails.
@@ -70,44 +71,49 @@ fn with_known(alloc: Global, model: ModelMeta) -> Result<Result<ModelMeta, MetaF
     ensures told { IfOk result (λ known. known ≡ with_known model) }
     ensures same { IfOk result (λ found. IfOk found (λ known. known ≡ model)) }
 {
-    if let Some(text) = unknown_trigger(alloc, &model)? {
-        return Ok(Err(MetaFault::TriggerUnknown(model.name.copy()?, text.copy()?)));
-    }
-    if let Some(text) = first_unknown(alloc, &model.attrs, &model.events)? {
+    if let Some(text) = named_unknown(alloc, &model)? {
         return Ok(Err(MetaFault::TriggerUnknown(model.name.copy()?, text.copy()?)));
     }
     Ok(Ok(model))
 }
 
-fn unknown_trigger(alloc: Global, model: &ModelMeta) -> Result<Option<&Text>, Mem>
-    ensures { IfOk result (λ unknown. option_map (λ t. t.now) unknown
-        ≡ (if model.now.any_inputs then None else first_unknown model.now.attrs model.now.trigger)) }
+// The first that the model names and that isn't one of its attributes, in which all names are looked up.
+fn named_unknown(alloc: Global, model: &ModelMeta) -> Result<Option<&Text>, Mem>
+    ensures { IfOk result (λ unknown. option_map (λ t. t.now) unknown ≡ named_unknown model.now) }
 {
-    if model.any_inputs {
-        Ok(None)
-    } else {
-        first_unknown(alloc, &model.attrs, &model.trigger)
-    }
-}
-
-// The first of the texts that isn't an attribute.
-fn first_unknown<'a>(
-    alloc: Global,
-    attrs: &List<Text>,
-    texts: &'a List<Text>,
-) -> Result<Option<&'a Text>, Mem>
-    ensures { IfOk result (λ unknown. option_map (λ t. t.now) unknown
-        ≡ first_unknown attrs.now texts.now) }
-{
-    if texts.is_empty() {
+    if names_none(model) {
         return Ok(None);
     }
-    let attrs = texts_of(alloc, attrs)?;
-    let unknown = first_other(&attrs, texts.as_slice());
+    let attrs = texts_of(alloc, &model.attrs)?;
+    let unknown = named_outside(&attrs, model);
     drop(attrs);
     Ok(unknown)
 }
 
+// The model names no attributes that have to be its own.
+fn names_none(model: &ModelMeta) -> bool
+    ensures { result ≡ true → named_unknown model.now ≡ None }
+{
+    (model.any_inputs || model.trigger.is_empty()) && model.events.is_empty()
+}
+
+// The first that the model names and that isn't one of these, which are its attributes.
+fn named_outside<'a>(attrs: &Texts, model: &'a ModelMeta) -> Option<&'a Text>
+    requires { attrs.now ≡ model.now.attrs }
+    ensures { option_map (λ t. t.now) result ≡ named_unknown model.now }
+{
+    let trigger = if model.any_inputs {
+        None
+    } else {
+        first_other(attrs, model.trigger.as_slice())
+    };
+    match trigger {
+        Some(text) => Some(text),
+        None => first_other(attrs, model.events.as_slice()),
+    }
+}
+
+// The first of the texts that isn't an attribute.
 fn first_other<'a>(attrs: &Texts, texts: &'a [Text]) -> Option<&'a Text>
     ensures { option_map (λ t. t.now) result ≡ first_unknown attrs.now texts.now }
 {
