@@ -1,12 +1,11 @@
 -- One request: what its calls add up to.
 use Rattle.std.proofs.Common.{◌≡◌, ℕ, ◌+◌, ◌<◌, true, false, List, [], length, Option, None, Result, Ok, Err, refl, ap, ◌∙◌, subst, inl, inr}
-use Rattle.std.specs.Prelude.{IfOk, IfErr}
+use Rattle.std.specs.Prelude.{IfErr}
 use Rattle.mk_base.specs.declared.SimNo.{SimNo}
 use Rattle.mk_frame.specs.Frames.{limit}
 use Rattle.mk_message.specs.Written.{call_text}
 use Rattle.mk_outside.specs.declared.fleet.LogEntry.{LogEntry}
 use Rattle.mk_outside.specs.Logs.{Adds}
-use Rattle.mk_outside.proofs.OnLogs.{adds_none}
 use Rattle.mk_plan.specs.declared.Call.{Call}
 use Rattle.mk_plan.specs.declared.Message.{Message}
 use Rattle.mk_session.specs.declared.answers.QueueFault.{QueueFault}
@@ -14,14 +13,14 @@ use Rattle.mk_session.specs.declared.answers.QueueFault.TheVariants as queue_fau
 use Rattle.mk_run_laws.specs.Channels.{Channel, queued}
 use Rattle.mk_run_laws.specs.Payloads.{IsFramed}
 use Rattle.mk_run_laws.specs.Crews.{IsHeard}
+use Rattle.mk_setup.specs.Seen.{SetupState}
 use Rattle.mk_run_links.specs.Entries.{AreOn}
 use Rattle.mk_run_links.specs.Places.{IsChannelLink, IsSet, Channels, crew}
 use Rattle.mk_local.specs.declared.turn.Turn.{Turn}
 use Rattle.mk_run_local.specs.Calls.{IsCalled}
 use Rattle.mk_run_local.specs.Seen.{AreOf}
 use Rattle.mk_run_crew.specs.declared.halt.Halt.{Halt}
-use Rattle.mk_run_crew.specs.declared.halt.Halt.TheVariants as halts
-use Rattle.mk_run_crew.specs.inner.Asking.{Asks, AsksFail, AsksOnLink, AsksWithin, IsUnqueued}
+use Rattle.mk_run_crew.specs.inner.Asking.{AnswersNot, AsksFail, AsksOnLink, AsksWithin, IsUnqueued, IsUntaken}
 use Rattle.mk_run_crew.specs.inner.Calls.{unsent}
 use Rattle.mk_run_crew.specs.Seen.{CrewSeen, is_here, within_of}
 
@@ -36,12 +35,7 @@ call_queued i call id next payload L M text more set = (set.0, subst (λ (n : �
 
 -- so it wasn't made
 pub asked_not : (h : Halt) (i : ℕ) (call : Call) (id : ℕ) (C D : CrewSeen) → is_here C i ≡ false → D ≡ C → IsUnqueued h i call id → AsksFail h i call id [] C D
-asked_not h i call id C D away same (inl mem) = inl (record { quiet = refl; same = same; cause = inl mem })
-asked_not h i call id C D away same (inr l) = inl (record {
-  quiet = refl;
-  same = same;
-  cause = inr (record { sim = l.sim; bytes = l.bytes; is = l.is; same_sim = l.same_sim; away = away; length_is = l.length_is; beyond = l.beyond });
-})
+asked_not h i call id C D away same why = inl (record { quiet = refl; same = same; cause = elim why [ inl mem ↦ inl mem | inr long ↦ inr (away, long) ] })
 
 -- the request was queued, and then this was heard
 pub asked_on_link : (i : ℕ) (call : Call) (id : ℕ) (from : ℕ) (m : Message) (entries : List LogEntry) (V C D : CrewSeen) (mid : Channels) → V ≡ C → is_here C i ≡ false → ((w : Channel) × IsSet i w (queued (call_text id call) (id + 1) w) V.channels mid) → IsFramed (call_text id call)
@@ -65,16 +59,8 @@ pub asked_within : (i : ℕ) (call : Call) (id : ℕ) (m : Message) (V C D : Cre
 asked_within i call id m V C D same here called known channels halt =
     subst (λ (X : CrewSeen). AsksWithin i call id i m [] X D) same (record { here = here; same_sim = refl; quiet = refl; called = called; known = known; channels = channels; halt = halt })
 
--- ---- an answer at once, before which and after which the log is the same
-
-pub answered_at_once : (r : Result (SimNo × Message) Halt) (i : ℕ) (call : Call) (id : ℕ) (C D : CrewSeen) (log : Option (List LogEntry)) → IfOk r (λ p. Asks i call id p.0.0 p.1 [] C D) → IfOk r (λ p. (entries : List LogEntry) × Adds entries log log × Asks i call id p.0.0 p.1 entries C D)
-answered_at_once (Ok p) i call id C D log asked = ([], adds_none log, asked)
-answered_at_once (Err h) i call id C D log asked = tt
-
-pub failed_at_once : (r : Result (SimNo × Message) Halt) (i : ℕ) (call : Call) (id : ℕ) (C D : CrewSeen) (log : Option (List LogEntry)) → IfErr r (λ h. (h ≡ halts.Mem) × AsksFail h i call id [] C D) → IfErr r (λ h. (entries : List LogEntry) × Adds entries log log × AsksFail h i call id entries C D)
-failed_at_once (Ok p) i call id C D log failed = tt
-failed_at_once (Err h) i call id C D log failed = ([], adds_none log, failed.1)
-
-pub not_by_fleet : (r : Result (SimNo × Message) Halt) (i : ℕ) (call : Call) (id : ℕ) (C D : CrewSeen) → IfErr r (λ h. (h ≡ halts.Mem) × AsksFail h i call id [] C D) → r ≡ Err halts.Fleet → ⊥
-not_by_fleet (Ok p) i call id C D failed is = cc
-not_by_fleet (Err h) i call id C D failed is = let mem = failed.0 in cc
+-- the setup didn't take the message that was heard
+pub not_taken : {X : Type 0} (r : Result X Halt) (risen : Type 0) (i : ℕ) (call : Call) (id : ℕ) (from : SimNo) (m : Message) (old new : Option (List LogEntry)) (C D : CrewSeen) (U : SetupState) → ((entries : List LogEntry) × Adds entries old new × AsksOnLink i call id from.0 m entries C D)
+    → IfErr r (λ h. IsUntaken h from m U) → IfErr r (λ h. (entries : List LogEntry) × Adds entries old new × AnswersNot risen h i call id entries C D U)
+not_taken (Ok x) risen i call id from m old new C D U asks untaken = tt
+not_taken (Err h) risen i call id from m old new C D U asks untaken = (asks.0, asks.1, inr (record { from = from; message = m; asks = inr asks.2; untaken = untaken }))

@@ -36,7 +36,7 @@ use Rattle.mk_run_links.specs.Places.{Channels, at, crew}
 use Rattle.mk_run_crew.specs.declared.halt.Halt.{Halt}
 use Rattle.mk_run_crew.specs.declared.halt.Halt.TheVariants as halt
 use Rattle.mk_run_crew.specs.Answers.{answers_to, AreHeard, AreKindAnswers}
-use Rattle.mk_run_crew.specs.inner.Asking.{AsksNot, AsksInVain, AsksWithin, AsksOnLink, IsAnswered, IsHalting, IsTooLongToAsk, setup_halt}
+use Rattle.mk_run_crew.specs.inner.Asking.{AsksNot, AsksInVain, AsksWithin, AsksOnLink, IsAnswered, IsHalting, IsLongCall, setup_halt}
 use Rattle.mk_run_crew.specs.Calls.{halt_of}
 use Rattle.mk_run_crew.specs.Halted.{IsAskedUpTo, IsSetupFault, ShowsCause, count_to}
 use Rattle.mk_run_crew.specs.Seen.{CrewSeen, is_here}
@@ -139,17 +139,17 @@ module _ (started : ℕ) (S : Scenario) (ranks : List ℕ) (rows : List Turn) wh
       subst (λ (x : List LogEntry). IsHalting (attempt started S ranks rows x) risen h D) (sym (ap (λ (x : List LogEntry). log ++ x) n.quiet ∙ append_nil log))
       (subst (λ (X : CrewSeen). IsHalting (attempt started S ranks rows log) risen h X) (sym n.same) (between_halts log risen h answers C a (cause n.cause)))
     where
-      cause : (h ≡ halt.Mem) ⊎ IsTooLongToAsk h r.sim r.call id C → ShowsCause (attempt started S ranks rows log) risen (take (length answers) (setup_requests S)) (drop (length answers) (setup_requests S)) h
+      cause : (h ≡ halt.Mem) ⊎ ((is_here C r.sim ≡ false) × IsLongCall h r.sim r.call id) → ShowsCause (attempt started S ranks rows log) risen (take (length answers) (setup_requests S)) (drop (length answers) (setup_requests S)) h
       cause (inl e) = subst (ShowsCause (attempt started S ranks rows log) risen (take (length answers) (setup_requests S)) (drop (length answers) (setup_requests S))) (sym e) tt
-      cause (inr t) = subst (ShowsCause (attempt started S ranks rows log) risen (take (length answers) (setup_requests S)) (drop (length answers) (setup_requests S))) (sym t.is) (record {
+      cause (inr t) = subst (ShowsCause (attempt started S ranks rows log) risen (take (length answers) (setup_requests S)) (drop (length answers) (setup_requests S))) (sym (t.1).is) (record {
         now = r;
         more = drop (suc (length answers)) (setup_requests S);
         first = (cut_at (length answers) r (setup_requests S) asked).1;
-        sim = sym t.same_sim;
-        link = (linked t.away).0;
-        linked = ap (sim_link started S) t.same_sim ∙ (linked t.away).1;
-        bytes = t.length_is ∙ ap (λ (n : ℕ). length (call_text n r.call)) (numbered ∙ ap (id_before S (length answers)) (sym t.same_sim));
-        beyond = t.beyond;
+        sim = sym (t.1).same_sim;
+        link = (linked t.0).0;
+        linked = ap (sim_link started S) (t.1).same_sim ∙ (linked t.0).1;
+        bytes = (t.1).length_is ∙ ap (λ (n : ℕ). length (call_text n r.call)) (numbered ∙ ap (id_before S (length answers)) (sym (t.1).same_sim));
+        beyond = (t.1).beyond;
       })
 
   -- ---- behind a request on a link

@@ -1,4 +1,4 @@
-//! The begin of a crew: the start of the simulators, and the handshake.
+//! The begin of a crew: the start of the simulators, and the handshake, with requests on links.
 ghost use Rattle.std.specs.Prelude.{◌≡◌, ◌≤◌, ◌<◌, ◌+◌, ◌⊎◌, ◌^◌, ℕ, List, [], ◌++◌, true, false, Some, None, length, map, IfOk, IfErr, OnOk, OnErr};
 ghost use Rattle.mk_base.specs.declared.LinkNo.{LinkNo};
 ghost use Rattle.mk_message.specs.Written.{call_text, is_call_in_range};
@@ -9,8 +9,7 @@ ghost use Rattle.mk_scenario.specs.Wellformed.{IsWellformed};
 ghost use Rattle.mk_launch.specs.Ready.{IsPrepared};
 ghost use Rattle.mk_launch.specs.Starts.{AreNumbered, AreStarted, links_in};
 ghost use Rattle.mk_launch.specs.Starts as starts;
-ghost use Rattle.mk_run_crew.specs.Attempts.{attempt};
-ghost use Rattle.mk_local.specs.Calls.{IsCallReplied};
+ghost use Rattle.mk_run_crew.specs.Attempts.{Attempt, attempt};
 ghost use Rattle.mk_local.specs.Kinds.{name_of};
 ghost use Rattle.mk_local.specs.Registries.{rows_in};
 ghost use Rattle.mk_run_laws.specs.Channels.{Channel, queued};
@@ -20,7 +19,7 @@ ghost use Rattle.mk_run_links.specs.Places.{AreOpen, AreDistinct, IsLinked, IsSe
 ghost use Rattle.mk_setup.specs.Handshakes.{begun};
 ghost use Rattle.mk_setup.specs.Ranked.{AreRanksOf};
 ghost use Rattle.mk_run_local.specs.Seen.{AreOf, new_within};
-ghost use Rattle.mk_run_crew.specs.inner.Asking.{Answers, AnswersNot, Asks, AsksFail, AsksOnLink, CanAsk, IsHalting, IsNewCrew, IsUnqueued, StepsNot, StepsTo, setup_halt};
+ghost use Rattle.mk_run_crew.specs.inner.Asking.{Answers, AnswersNot, AsksFail, AsksOnLink, IsHalting, IsLinkNext, IsNewCrew, IsUnqueued};
 ghost use Rattle.mk_run_crew.specs.inner.Calls.{start_halt};
 ghost use Rattle.mk_run_crew.specs.Begun.{HasBegun};
 ghost use Rattle.mk_run_crew.specs.Halted.{HasHalted};
@@ -28,6 +27,7 @@ ghost use Rattle.mk_run_crew.specs.Started.{IsOfStart, StartsLinks};
 ghost use Rattle.mk_run_crew.specs.Seen.{is_here};
 ghost use Rattle.mk_run_crew.specs.declared.halt.Halt.TheVariants as halts;
 
+use crate::asking::{Stage, take_answer};
 use crate::crew::{Crew, unsent};
 use crate::halt::Halt;
 use mk_base::{LinkNo, List, Mem, SimNo};
@@ -39,19 +39,9 @@ use mk_plan::{Call, Message, Plan};
 use mk_run_links::{Links, close_all, places_are_distinct};
 use mk_run_local::Within;
 use mk_scenario::Scenario;
-use mk_setup::{Setup, SetupFault, SetupNext, replies_make};
+use mk_setup::{Setup, replies_make};
 use std::alloc::Global;
 use std::sync::Wait;
-
-// The halt that a fault of the handshake is.
-pub fn setup_halt(fault: SetupFault) -> Halt
-    ensures { result ≡ setup_halt fault }
-{
-    match fault {
-        SetupFault::Mem => Halt::Mem,
-        other => Halt::Setup(other),
-    }
-}
 
 // The halt that a fault of the start is.
 fn start_halt(fault: StartFault) -> Halt
@@ -219,61 +209,18 @@ impl Crew {
         }
     }
 
-    // Makes a request, and gives the answer, or the message that came in its place.
-    fn ask<F: Fleet, R: Wait>(
-        &mut self,
-        rt: &R,
-        kinds: &Registry,
-        fleet: &mut F,
-        sim: SimNo,
-        call: &Call,
-        id: u64,
-    ) -> Result<(SimNo, Message), Halt>
-        requires linked { is_here self.old sim.0 ≡ false → (w : Channel)
-            × (at self.old.channels sim.0 ≡ Some w) }
-        requires open { AreOpen self.old.channels (F.open_links fleet.old) }
-        requires replied { IsCallReplied call.now }
-        requires range { is_call_in_range call.now ≡ true }
-        requires few { id < 2 ^ 32 }
-        requires going { self.old.halt ≡ None }
-        ensures count { F.faults fleet.old ≤ F.faults fleet.new }
-        ensures cause { result ≡ Err Halt.Fleet
-            → HasRisen (F.faults fleet.old) (F.faults fleet.new) }
-        ensures same_count { F.started fleet.new ≡ F.started fleet.old }
-        ensures same_links { F.open_links fleet.new ≡ F.open_links fleet.old }
-        ensures same_places { self.new.places ≡ self.old.places }
-        ensures open { AreOpen self.new.channels (F.open_links fleet.new) }
-        ensures ok { IfOk result (λ r. (entries : List LogEntry)
-            × Adds entries (F.log fleet.old) (F.log fleet.new)
-            × Asks sim.0 call.now id r.0.0 r.1 entries self.old self.new) }
-        ensures err { IfErr result (λ h. (entries : List LogEntry)
-            × Adds entries (F.log fleet.old) (F.log fleet.new)
-            × AsksFail h sim.0 call.now id entries self.old self.new) }
-    {
-        if self.within.has(sim) {
-            return self.ask_within(kinds, sim, call, id);
-        }
-        self.ask_link(rt, fleet, sim, call, id)
-    }
-
-    // Makes the request that a setup has asked for, and hands it the message that comes.
+    // Makes the request that a setup has asked for on a link, and hands it the message that comes.
     fn make_request<F: Fleet, R: Wait>(
         &mut self,
         rt: &R,
-        kinds: &Registry,
         fleet: &mut F,
         setup: &mut Setup,
         sim: SimNo,
-        call: &Call,
+        call: Call,
         id: u64,
     ) -> Result<(), Halt>
-        requires linked { is_here self.old sim.0 ≡ false → (w : Channel)
-            × (at self.old.channels sim.0 ≡ Some w) }
+        requires next { (A : Attempt) × IsLinkNext A sim call id self.old setup.old }
         requires open { AreOpen self.old.channels (F.open_links fleet.old) }
-        requires replied { IsCallReplied call.now }
-        requires range { is_call_in_range call.now ≡ true }
-        requires few { id < 2 ^ 32 }
-        requires going { self.old.halt ≡ None }
         ensures count { F.faults fleet.old ≤ F.faults fleet.new }
         ensures same_count { F.started fleet.new ≡ F.started fleet.old }
         ensures same_links { F.open_links fleet.new ≡ F.open_links fleet.old }
@@ -281,55 +228,14 @@ impl Crew {
         ensures open { AreOpen self.new.channels (F.open_links fleet.new) }
         ensures ok { OnOk result ((entries : List LogEntry)
             × Adds entries (F.log fleet.old) (F.log fleet.new)
-            × Answers sim.0 call.now id entries self.old self.new setup.old setup.new) }
+            × Answers sim.0 call id entries self.old self.new setup.old setup.new) }
         ensures err { IfErr result (λ h. (entries : List LogEntry)
             × Adds entries (F.log fleet.old) (F.log fleet.new)
-            × AnswersNot (HasRisen (F.faults fleet.old) (F.faults fleet.new)) h sim.0 call.now id
+            × AnswersNot (HasRisen (F.faults fleet.old) (F.faults fleet.new)) h sim.0 call id
             entries self.old self.new setup.old) }
     {
-        let (from, message) = self.ask(rt, kinds, fleet, sim, call, id)?;
-        match setup.arrive(from, &message) {
-            Ok(()) => Ok(()),
-            Err(fault) => Err(setup_halt(fault)),
-        }
-    }
-
-    // Makes the next request of a setup; or gives the plan, once all are made.
-    fn step<F: Fleet, R: Wait>(
-        &mut self,
-        rt: &R,
-        kinds: &Registry,
-        fleet: &mut F,
-        setup: &mut Setup,
-    ) -> Result<Option<Plan>, Halt>
-        requires open { AreOpen self.old.channels (F.open_links fleet.old) }
-        requires going { self.old.halt ≡ None }
-        requires resting { setup.old.asked ≡ false }
-        requires next { CanAsk self.old setup.old }
-        ensures count { F.faults fleet.old ≤ F.faults fleet.new }
-        ensures same_count { F.started fleet.new ≡ F.started fleet.old }
-        ensures same_links { F.open_links fleet.new ≡ F.open_links fleet.old }
-        ensures same_places { self.new.places ≡ self.old.places }
-        ensures open { AreOpen self.new.channels (F.open_links fleet.new) }
-        ensures ok { IfOk result (λ plan. (entries : List LogEntry)
-            × Adds entries (F.log fleet.old) (F.log fleet.new)
-            × StepsTo plan entries self.old self.new setup.old setup.new) }
-        ensures err { IfErr result (λ h. (entries : List LogEntry)
-            × Adds entries (F.log fleet.old) (F.log fleet.new)
-            × StepsNot (HasRisen (F.faults fleet.old) (F.faults fleet.new)) h entries self.old
-            self.new setup.old) }
-    {
-        match setup.next() {
-            Ok(SetupNext::Request { sim, call, id }) => {
-                match self.make_request(rt, kinds, fleet, setup, sim, &call, id) {
-                    Ok(()) => Ok(None),
-                    Err(halt) => Err(halt),
-                }
-            }
-            Ok(SetupNext::Wait) => unreachable!(),
-            Ok(SetupNext::Ready(plan)) => Ok(Some(plan)),
-            Err(fault) => Err(setup_halt(fault)),
-        }
+        let (from, message) = self.ask_link(rt, fleet, sim, &call, id)?;
+        take_answer(setup, from, &message)
     }
 
     // Makes the requests of a setup, each after the reply to the one before, and gives the plan.
@@ -341,7 +247,6 @@ impl Crew {
         setup: &mut Setup,
     ) -> Result<Plan, Halt>
         requires begun { setup.old ≡ begun setup.old.scenario setup.old.ranks }
-        requires wellformed { IsWellformed setup.old.scenario }
         requires prepared { IsPrepared setup.old.scenario (map name_of (rows_in kinds.now)) }
         requires new { (started : ℕ)
             × IsNewCrew started (rows_in kinds.now) setup.old.scenario
@@ -366,9 +271,13 @@ impl Crew {
     {
         replies_make();
         for _ in rt.forever() {
-            match self.step(rt, kinds, fleet, setup) {
-                Ok(Some(plan)) => return Ok(plan),
-                Ok(None) => {}
+            match self.set_up_within(kinds, setup) {
+                Ok(Stage::Linked { sim, call, id }) => {
+                    if let Err(halt) = self.make_request(rt, fleet, setup, sim, call, id) {
+                        return Err(halt);
+                    }
+                }
+                Ok(Stage::Planned(plan)) => return Ok(plan),
                 Err(halt) => return Err(halt),
             }
         }
@@ -384,7 +293,6 @@ impl Crew {
         setup: Setup,
     ) -> Result<(Crew, Plan), Halt>
         requires begun { setup ≡ begun setup.scenario setup.ranks }
-        requires wellformed { IsWellformed setup.scenario }
         requires prepared { IsPrepared setup.scenario (map name_of (rows_in kinds.now)) }
         requires new { (started : ℕ)
             × IsNewCrew started (rows_in kinds.now) setup.scenario (F.open_links fleet.old) self }

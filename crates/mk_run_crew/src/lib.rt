@@ -1,6 +1,7 @@
 //! A crew: the links of a run and its simulators within the program together, from their start to their stop.
 #![tactic(auto)]
 
+mod asking;
 mod beginning;
 mod crew;
 mod halt;

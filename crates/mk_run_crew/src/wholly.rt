@@ -1,32 +1,30 @@
 //! The begin of a crew whose simulators are all within the program: no link is started, and nobody is waited for.
-ghost use Rattle.std.specs.Prelude.{◌≡◌, ℕ, [], true, false, None, map, IfOk, IfErr, OnOk};
+ghost use Rattle.std.specs.Prelude.{◌≡◌, ℕ, [], true, None, map, IfOk, IfErr};
 ghost use Rattle.mk_outside.specs.Counts.{HasRisen};
 ghost use Rattle.mk_scenario.specs.Wellformed.{IsWellformed};
 ghost use Rattle.mk_launch.specs.Ready.{IsPrepared};
 ghost use Rattle.mk_run_crew.specs.Attempts.{attempt};
-ghost use Rattle.mk_local.specs.Calls.{IsCallReplied};
 ghost use Rattle.mk_local.specs.Kinds.{name_of};
 ghost use Rattle.mk_local.specs.Registries.{rows_in};
 ghost use Rattle.mk_run_laws.specs.Handshake.{is_local};
 ghost use Rattle.mk_run_links.specs.Places.{at};
 ghost use Rattle.mk_setup.specs.Handshakes.{begun};
 ghost use Rattle.mk_setup.specs.Ranked.{AreRanksOf};
-ghost use Rattle.mk_run_crew.specs.inner.Asking.{Answers, AnswersNot, Asks, AsksFail, CanAskWithin, IsHalting, IsNewCrew, StepsNot, StepsTo};
+ghost use Rattle.mk_run_crew.specs.inner.Asking.{IsNewCrew};
 ghost use Rattle.mk_run_crew.specs.Begun.{HasBegun};
 ghost use Rattle.mk_run_crew.specs.Halted.{HasHalted};
-ghost use Rattle.mk_run_crew.specs.Seen.{is_here};
 ghost use Rattle.mk_run_crew.specs.Wholly.{IsWithinHalt, is_wholly_within};
 ghost use Rattle.mk_run_crew.specs.inner.Wholly.{no_links};
-ghost use Rattle.mk_run_crew.specs.declared.halt.Halt.TheVariants as halts;
 
-use crate::beginning::{let_go, new_crew, setup_halt};
+use crate::asking::Stage;
+use crate::beginning::{let_go, new_crew};
 use crate::crew::Crew;
 use crate::halt::Halt;
-use mk_base::{LinkNo, List, Mem, SimNo};
+use mk_base::{LinkNo, List, Mem};
 use mk_local::Registry;
-use mk_plan::{Call, Message, Plan};
+use mk_plan::Plan;
 use mk_scenario::{Begin, Scenario};
-use mk_setup::{Setup, SetupNext, replies_make};
+use mk_setup::{Setup, replies_make};
 use std::alloc::Global;
 
 /// Whether each simulator of a scenario runs within the program.
@@ -62,102 +60,6 @@ fn no_links(alloc: Global, scenario: &Scenario) -> Result<List<Option<LinkNo>>, 
 }
 
 impl Crew {
-    // Makes a request to a simulator within the program, and gives its reply.
-    pub(crate) fn ask_within(
-        &mut self,
-        kinds: &Registry,
-        sim: SimNo,
-        call: &Call,
-        id: u64,
-    ) -> Result<(SimNo, Message), Halt>
-        requires here { is_here self.old sim.0 ≡ true }
-        requires replied { IsCallReplied call.now }
-        ensures ok { IfOk result (λ r. Asks sim.0 call.now id r.0.0 r.1 [] self.old self.new) }
-        ensures err { IfErr result (λ h. (h ≡ halts.Mem)
-            × AsksFail h sim.0 call.now id [] self.old self.new) }
-        ensures same_channels { self.new.channels ≡ self.old.channels }
-        ensures same_places { self.new.places ≡ self.old.places }
-    {
-        let message = self.within.answer_call(kinds, sim, call, id)?;
-        Ok((sim, message))
-    }
-
-    // Makes the request that a setup has asked for to a simulator within the program, and hands it the reply.
-    fn make_request_within(
-        &mut self,
-        kinds: &Registry,
-        setup: &mut Setup,
-        sim: SimNo,
-        call: &Call,
-        id: u64,
-    ) -> Result<(), Halt>
-        requires here { is_here self.old sim.0 ≡ true }
-        requires replied { IsCallReplied call.now }
-        ensures ok { OnOk result
-            (Answers sim.0 call.now id [] self.old self.new setup.old setup.new) }
-        ensures err { IfErr result
-            (λ h. AnswersNot ⊥ h sim.0 call.now id [] self.old self.new setup.old) }
-        ensures cause { IfErr result IsWithinHalt }
-        ensures same_channels { self.new.channels ≡ self.old.channels }
-        ensures same_places { self.new.places ≡ self.old.places }
-    {
-        let (from, message) = self.ask_within(kinds, sim, call, id)?;
-        match setup.arrive(from, &message) {
-            Ok(()) => Ok(()),
-            Err(fault) => Err(setup_halt(fault)),
-        }
-    }
-
-    // Makes the next request of a setup, within the program; or gives the plan, once all are made.
-    fn step_within(&mut self, kinds: &Registry, setup: &mut Setup) -> Result<Option<Plan>, Halt>
-        requires resting { setup.old.asked ≡ false }
-        requires next { CanAskWithin self.old setup.old }
-        ensures ok { IfOk result (λ plan. StepsTo plan [] self.old self.new setup.old setup.new) }
-        ensures err { IfErr result (λ h. StepsNot ⊥ h [] self.old self.new setup.old) }
-        ensures cause { IfErr result IsWithinHalt }
-        ensures same_channels { self.new.channels ≡ self.old.channels }
-        ensures same_places { self.new.places ≡ self.old.places }
-    {
-        match setup.next() {
-            Ok(SetupNext::Request { sim, call, id }) => {
-                match self.make_request_within(kinds, setup, sim, &call, id) {
-                    Ok(()) => Ok(None),
-                    Err(halt) => Err(halt),
-                }
-            }
-            Ok(SetupNext::Wait) => unreachable!(),
-            Ok(SetupNext::Ready(plan)) => Ok(Some(plan)),
-            Err(fault) => Err(setup_halt(fault)),
-        }
-    }
-
-    // Makes the requests of a setup whose simulators are all within the program, one after another, and gives the plan.
-    fn set_up_within(&mut self, kinds: &Registry, setup: &mut Setup) -> Result<Plan, Halt>
-        requires begun { setup.old ≡ begun setup.old.scenario setup.old.ranks }
-        requires prepared { IsPrepared setup.old.scenario (map name_of (rows_in kinds.now)) }
-        requires wholly { is_wholly_within setup.old.scenario ≡ true }
-        requires new { (started : ℕ)
-            → IsNewCrew started (rows_in kinds.now) setup.old.scenario [] self.old }
-        ensures ok { IfOk result (λ P. (started : ℕ)
-            → HasBegun (attempt started setup.old.scenario setup.old.ranks (rows_in kinds.now) [])
-            self.new P) }
-        ensures err { IfErr result (λ h. (started : ℕ)
-            → IsHalting (attempt started setup.old.scenario setup.old.ranks (rows_in kinds.now) [])
-            ⊥ h self.new) }
-        ensures cause { IfErr result IsWithinHalt }
-        ensures same_channels { self.new.channels ≡ self.old.channels }
-        ensures same_places { self.new.places ≡ self.old.places }
-    {
-        replies_make();
-        'asking: loop {
-            match self.step_within(kinds, setup) {
-                Ok(Some(plan)) => return Ok(plan),
-                Ok(None) => {}
-                Err(halt) => return Err(halt),
-            }
-        }
-    }
-
     // Makes the handshake of a new crew whose simulators are all within the program.
     fn shake_within(self, kinds: &Registry, setup: Setup) -> Result<(Crew, Plan), Halt>
         requires begun { setup ≡ begun setup.scenario setup.ranks }
@@ -177,8 +79,10 @@ impl Crew {
     {
         let mut crew = self;
         let mut setup = setup;
+        replies_make();
         match crew.set_up_within(kinds, &mut setup) {
-            Ok(plan) => {
+            Ok(Stage::Linked { .. }) => unreachable!(),
+            Ok(Stage::Planned(plan)) => {
                 let_go(setup);
                 Ok((crew, plan))
             }

@@ -1,5 +1,5 @@
 -- For proofs alone. What one request of a handshake comes to, and a handshake so far.
-use Rattle.std.specs.Prelude.{◌≡◌, ℕ, ◌+◌, ◌<◌, ◌⊎◌, true, false, List, [], ◌∷◌, ◌++◌, length, take, drop, filter_map, Option, Some, None, Ok}
+use Rattle.std.specs.Prelude.{◌≡◌, ℕ, ◌+◌, ◌<◌, ◌⊎◌, true, false, List, [], ◌∷◌, ◌++◌, length, take, drop, filter_map, map, Option, Some, None, Ok}
 use Rattle.mk_base.specs.declared.LinkNo.{LinkNo}
 use Rattle.mk_base.specs.declared.SimNo.{SimNo}
 use Rattle.mk_base.specs.Lists.{IsIn}
@@ -7,16 +7,15 @@ use Rattle.mk_frame.specs.Frames.{limit}
 use Rattle.mk_message.specs.Written.{call_text}
 use Rattle.mk_outside.specs.declared.fleet.LogEntry.{LogEntry}
 use Rattle.mk_outside.specs.declared.fleet.LogEntry.TheVariants.{Rest}
-use Rattle.mk_outside.specs.Logs.{Adds}
 use Rattle.mk_plan.specs.declared.Call.{Call}
 use Rattle.mk_plan.specs.declared.Message.{Message}
-use Rattle.mk_plan.specs.declared.Plan.{Plan}
 use Rattle.mk_plan.specs.Sequential.{Messages}
 use Rattle.mk_scenario.specs.declared.parts.Scenario.{Scenario}
+use Rattle.mk_launch.specs.Ready.{IsPrepared}
 use Rattle.mk_launch.specs.Starts.{places}
 use Rattle.mk_run_crew.specs.Attempts.{Attempt}
 use Rattle.mk_local.specs.declared.turn.Turn.{Turn}
-use Rattle.mk_local.specs.Calls.{IsCallReplied}
+use Rattle.mk_local.specs.Kinds.{name_of}
 use Rattle.mk_run_laws.specs.Channels.{Channel, IsChannelAt, queued}
 use Rattle.mk_run_laws.specs.Crews.{IsHeard, IsUnheard}
 use Rattle.mk_run_laws.specs.Handshake.{Request, setup_requests, call_to, call_payloads, sim_link}
@@ -35,9 +34,12 @@ use Rattle.mk_run_links.specs.Halts.{ShowsHalt}
 use Rattle.mk_run_links.specs.Places.{IsChannelLink, IsSet, Channels, at, crew, new_channels}
 use Rattle.mk_run_local.specs.Calls.{IsCalled}
 use Rattle.mk_run_local.specs.Seen.{AreOf, new_within, sim_at}
+use Rattle.mk_run_crew.specs.declared.asking.Stage.{Stage}
+use Rattle.mk_run_crew.specs.declared.asking.Stage.TheVariants as stages
 use Rattle.mk_run_crew.specs.declared.halt.Halt.{Halt}
 use Rattle.mk_run_crew.specs.declared.halt.Halt.TheVariants as halt
 use Rattle.mk_run_crew.specs.Answers.{answers_to, sim_after, AreKindAnswers}
+use Rattle.mk_run_crew.specs.Begun.{HasBegun}
 use Rattle.mk_run_crew.specs.Calls.{halt_of}
 use Rattle.mk_run_crew.specs.Halted.{ShowsCause, count_to}
 use Rattle.mk_run_crew.specs.Seen.{CrewSeen, within_of, is_here}
@@ -87,22 +89,12 @@ pub record IsLongCall (h : Halt) (i : ℕ) (call : Call) (id : ℕ) : Type 0 whe
 abbrev pub IsUnqueued : Halt → ℕ → Call → ℕ → Type 0
 IsUnqueued h i call id = (h ≡ halt.Mem) ⊎ IsLongCall h i call id
 
--- the same, of a simulator that isn't within the program
-pub record IsTooLongToAsk (h : Halt) (i : ℕ) (call : Call) (id : ℕ) (old : CrewSeen) : Type 0 where
-  pub sim : SimNo
-  pub bytes : ℕ
-  pub is : h ≡ halt.LongItem sim bytes
-  pub same_sim : sim.0 ≡ i
-  pub away : is_here old i ≡ false
-  pub length_is : bytes ≡ length (call_text id call)
-  pub beyond : limit < bytes
-
 -- the request wasn't made
 pub record AsksNot (h : Halt) (i : ℕ) (call : Call) (id : ℕ) (entries : List LogEntry)
     (old new : CrewSeen) : Type 0 where
   pub quiet : entries ≡ []
   pub same : new ≡ old
-  pub cause : (h ≡ halt.Mem) ⊎ IsTooLongToAsk h i call id old
+  pub cause : (h ≡ halt.Mem) ⊎ ((is_here old i ≡ false) × IsLongCall h i call id)
 
 -- the request, whose payload a frame may have, was queued, and nothing was heard
 pub record AsksInVain (h : Halt) (i : ℕ) (call : Call) (id : ℕ) (entries : List LogEntry)
@@ -140,16 +132,20 @@ pub record Answers (i : ℕ) (call : Call) (id : ℕ) (entries : List LogEntry) 
   pub asks : Asks i call id from.0 message entries old new
   pub taken : after_reply U (arrival from message) ≡ Ok V
 
+-- the setup didn't take a message
+pub record IsUntaken (h : Halt) (from : SimNo) (m : Message) (U : SetupState) : Type 0 where
+  pub fault : SetupFault
+  pub is : h ≡ setup_halt fault
+  pub state : SetupState
+  pub refused : IsRefused U (arrival from m) fault state
+
 -- a request was made, and the setup didn't take what came
 pub record IsNotTaken (h : Halt) (i : ℕ) (call : Call) (id : ℕ) (entries : List LogEntry)
     (old new : CrewSeen) (U : SetupState) : Type 0 where
   pub from : SimNo
   pub message : Message
   pub asks : Asks i call id from.0 message entries old new
-  pub fault : SetupFault
-  pub is : h ≡ setup_halt fault
-  pub state : SetupState
-  pub refused : IsRefused U (arrival from message) fault state
+  pub untaken : IsUntaken h from message U
 
 -- or nothing came
 abbrev pub AnswersNot : Type 0 → Halt → ℕ → Call → ℕ → List LogEntry → CrewSeen → CrewSeen
@@ -157,58 +153,42 @@ abbrev pub AnswersNot : Type 0 → Halt → ℕ → Call → ℕ → List LogEnt
 AnswersNot risen h i call id entries old new U = (AsksFail h i call id entries old new
     × (h ≡ halt.Fleet → risen)) ⊎ IsNotTaken h i call id entries old new U
 
--- what the setup asks for next can be asked: it gets a reply, and its simulator has a channel, unless
--- it is within the program
-abbrev pub CanAsk : CrewSeen → SetupState → Type 0
-CanAsk C U = (sim : SimNo) (call : Call) (id : ℕ) (V : SetupState) → IsRequested U sim call id V
-    → IsCallReplied call
-    × (is_here C sim.0 ≡ false → (w : Channel) × (at C.channels sim.0 ≡ Some w))
-
--- it gets a reply of a simulator within the program
-abbrev pub CanAskWithin : CrewSeen → SetupState → Type 0
-CanAskWithin C U = (sim : SimNo) (call : Call) (id : ℕ) (V : SetupState)
-    → IsRequested U sim call id V → IsCallReplied call × (is_here C sim.0 ≡ true)
-
--- the next request was made, and the setup took what came
-pub record IsStepped (entries : List LogEntry) (old new : CrewSeen)
-    (U V : SetupState) : Type 0 where
+-- the next request was made to a simulator within the program, and the setup took the reply
+pub record IsStepped (old new : CrewSeen) (U V : SetupState) : Type 0 where
   pub sim : SimNo
   pub call : Call
   pub id : ℕ
   pub state : SetupState
   pub requested : IsRequested U sim call id state
-  pub answers : Answers sim.0 call id entries old new state V
+  pub answers : Answers sim.0 call id [] old new state V
 
--- or all were made, and this is the plan
-abbrev pub StepsTo : Option Plan → List LogEntry → CrewSeen → CrewSeen → SetupState → SetupState
-    → Type 0
-StepsTo None entries old new U V = IsStepped entries old new U V
-StepsTo (Some P) entries old new U V = (entries ≡ []) × (new ≡ old) × IsReady U P V
+-- or it is to be made to one that isn't; or all were made, and this is the plan
+abbrev pub StepsTo : Option Stage → CrewSeen → CrewSeen → SetupState → SetupState → Type 0
+StepsTo None old new U V = IsStepped old new U V
+StepsTo (Some (stages.Linked sim call id)) old new U V = (new ≡ old) × IsRequested U sim call id V
+    × (is_here new sim.0 ≡ false)
+StepsTo (Some (stages.Planned P)) old new U V = (new ≡ old) × IsReady U P V
 
--- the next request was made in vain
-pub record IsStuck (risen : Type 0) (h : Halt) (entries : List LogEntry) (old new : CrewSeen)
-    (U : SetupState) : Type 0 where
+-- the next request was made to a simulator within the program, in vain
+pub record IsStuck (h : Halt) (old new : CrewSeen) (U : SetupState) : Type 0 where
   pub sim : SimNo
   pub call : Call
   pub id : ℕ
   pub state : SetupState
   pub requested : IsRequested U sim call id state
-  pub failed : AnswersNot risen h sim.0 call id entries old new state
+  pub failed : AnswersNot ⊥ h sim.0 call id [] old new state
 
 -- or it can't be made
-pub record IsUnmade (h : Halt) (entries : List LogEntry) (old new : CrewSeen)
-    (U : SetupState) : Type 0 where
+pub record IsUnmade (h : Halt) (old new : CrewSeen) (U : SetupState) : Type 0 where
   pub fault : SetupFault
   pub is : h ≡ setup_halt fault
-  pub quiet : entries ≡ []
   pub same : new ≡ old
   pub state : SetupState
   pub unready : GivesNoRequest U fault state
 
 -- why a step came to nothing
-abbrev pub StepsNot : Type 0 → Halt → List LogEntry → CrewSeen → CrewSeen → SetupState → Type 0
-StepsNot risen h entries old new U = IsStuck risen h entries old new U
-    ⊎ IsUnmade h entries old new U
+abbrev pub StepsNot : Halt → CrewSeen → CrewSeen → SetupState → Type 0
+StepsNot h old new U = IsStuck h old new U ⊎ IsUnmade h old new U
 
 -- a crew before its first request: the links, so many having been started before, are open, and
 -- their channels are new; and no simulator within the program has been asked
@@ -239,16 +219,29 @@ pub record IsAnswered (started : ℕ) (S : Scenario) (rows : List Turn) (log : L
   pub places : C.places ≡ places started S.sims
   pub on_links : AreOn (IsRunLink started S) log
 
--- the handshake so far: these entries were added, and the setup and the crew have come about
--- together by the answers
-pub record GoesSoFar (started : ℕ) (S : Scenario) (ranks : List ℕ) (rows : List Turn)
-    (old new : Option (List LogEntry)) (C : CrewSeen) (U : SetupState) : Type 0 where
-  pub entries : List LogEntry
-  pub adds : Adds entries old new
+-- the handshake of the attempt so far: over its log the setup and the crew have come about together
+-- by the answers
+pub record GoesSoFar (A : Attempt) (C : CrewSeen) (U : SetupState) : Type 0 where
+  pub prepared : IsPrepared A.scenario (map name_of A.rows)
   pub answers : List Message
-  pub reached : IsReached S ranks answers U
+  pub reached : IsReached A.scenario A.ranks answers U
   pub resting : U.asked ≡ false
-  pub answered : IsAnswered started S rows entries answers C
+  pub answered : IsAnswered A.started A.scenario A.rows A.log answers C
+
+-- it has come so far, and the next request was made, to a simulator that isn't within the program,
+-- and has a channel
+pub record IsLinkNext (A : Attempt) (sim : SimNo) (call : Call) (id : ℕ) (C : CrewSeen)
+    (V : SetupState) : Type 0 where
+  pub state : SetupState
+  pub so_far : GoesSoFar A C state
+  pub requested : IsRequested state sim call id V
+  pub away : is_here C sim.0 ≡ false
+  pub channel : (w : Channel) × (at C.channels sim.0 ≡ Some w)
+
+-- how far it comes without a link
+abbrev pub ComesTo : Attempt → Stage → CrewSeen → SetupState → Type 0
+ComesTo A (stages.Linked sim call id) C V = IsLinkNext A sim call id C V
+ComesTo A (stages.Planned P) C V = HasBegun A C P
 
 -- the handshake has ended early, and the crew is still to be stopped
 pub record IsHalting (A : Attempt) (risen : Type 0) (h : Halt) (C : CrewSeen) : Type 0 where

@@ -1,10 +1,10 @@
--- Answers to the goals of `beginning::setup_halt` that the prover leaves.
+-- Answers to the goals of `asking::setup_halt` that the prover leaves.
 use Rattle.std.proofs.Common.{◌≡◌, refl}
 use Rattle.mk_setup.specs.declared.fault.SetupFault.{SetupFault}
 use Rattle.mk_setup.specs.declared.fault.SetupFault.TheVariants.{Meta, Create, Connect, Unasked, Failed, Mem}
 use Rattle.mk_run_crew.specs.declared.halt.Halt.TheVariants as halt
 use Rattle.mk_run_crew.specs.inner.Asking.{setup_halt}
-use Rattle.mk_run_crew.proofs.beginning.setup_halt.Goals as goal
+use Rattle.mk_run_crew.proofs.asking.setup_halt.Goals as goal
 
 -- each fault but want of memory stands in the halt
 stands : (f : SetupFault) → (f ≡ Mem → ⊥) → halt.Setup f ≡ setup_halt f
