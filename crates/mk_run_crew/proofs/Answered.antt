@@ -1,5 +1,5 @@
 -- Where each request of a handshake is answered, nothing goes wrong that it can show.
-use Rattle.std.proofs.Common.{◌≡◌, ℕ, zero, suc, ◌+◌, ◌<◌, ◌≤◌, ◌⊎◌, ◌==◌, not, Bool, true, false, List, [], ◌∷◌, ◌++◌, length, take, drop, map, fold, Option, Some, None, Result, Ok, Err, slice_get, refl, sym, ap, ◌∙◌, subst, inl, inr, append_assoc, length-append, arith, if◌then◌else◌}
+use Rattle.std.proofs.Common.{◌≡◌, ℕ, zero, suc, ◌+◌, ◌<◌, ◌≤◌, ◌⊎◌, ◌==◌, not, Bool, true, false, List, [], ◌∷◌, ◌++◌, length, take, drop, fold, Option, Some, None, Result, Ok, Err, slice_get, refl, sym, ap, ◌∙◌, subst, inl, inr, append_assoc, length-append, arith, if◌then◌else◌}
 use Rattle.std.specs.Prelude.{filter, filter_map, option_and_then, option_map, option_to_list, unwrap_or}
 use Rattle.std.specs.List.{cons_option, enumerate_from}
 use Rattle.std.proofs.lemmas.Bool.{eq-eqb}
@@ -8,18 +8,16 @@ use Rattle.std.proofs.lemmas.Option.{slice_get_past}
 use Rattle.mk_base.specs.declared.LinkNo.{LinkNo}
 use Rattle.mk_base.specs.Lists.{BeginsWith, IsIn}
 use Rattle.mk_base.specs.Verdicts.{passed}
-use Rattle.mk_base.proofs.Lists.{none_some, some_same, append_nil, at_in, below_get, filter_map_append, get_is, in_each, in_either, in_map}
+use Rattle.mk_base.proofs.Lists.{none_some, some_same, append_nil, below_get, filter_map_append, get_is, in_each}
 use Rattle.mk_frame.specs.Frames.{IsTooLong, frame_of, frames_of, limit}
 use Rattle.mk_frame.proofs.OnFrames.{length-frame_of}
 use Rattle.mk_message.specs.Written.{call_text}
 use Rattle.mk_outside.specs.declared.fleet.LogEntry.{LogEntry}
 use Rattle.mk_outside.specs.Logs.{heard_on, said_on}
 use Rattle.mk_plan.specs.declared.Call.{Call}
-use Rattle.mk_plan.specs.declared.Call.TheVariants.{Init, Create, SetupDone}
 use Rattle.mk_plan.specs.declared.Message.{Message}
 use Rattle.mk_plan.specs.declared.Plan.{Plan}
 use Rattle.mk_plan.specs.Journals.{Arrival}
-use Rattle.mk_scenario.specs.declared.parts.Group.{Group}
 use Rattle.mk_scenario.specs.declared.parts.SimPart.{SimPart}
 use Rattle.mk_scenario.specs.declared.parts.Scenario.{Scenario}
 use Rattle.mk_scenario.specs.Wellformed.{IsWellformed, IsWellformedGroup}
@@ -45,7 +43,7 @@ use Rattle.mk_run_crew.specs.Attempts.{Attempt}
 use Rattle.mk_run_crew.specs.Completing.{IsFaultlessHandshake}
 use Rattle.mk_run_crew.specs.Halted.{IsAskedUpTo, IsLongRequest, made_by}
 use Rattle.mk_run_crew.proofs.HeardMore.{heard_later}
-use Rattle.mk_run_crew.proofs.Requests.{both_parts, cut_at, get_pushed}
+use Rattle.mk_run_crew.proofs.Requests.{both_parts, cut_at, get_pushed, of_each_request}
 use Rattle.mk_base.proofs.Items.{front_get, get_last}
 use Rattle.mk_base.proofs.Counts.{not_same, same_or_not}
 use Rattle.mk_outside.proofs.OnLogs.{heard-append}
@@ -66,29 +64,8 @@ enumerated_low {X} n p (x ∷ xs) (inl e) = let q : p.0 ≡ n = ap (λ (r : ℕ 
 enumerated_low n p (x ∷ xs) (inr h) = let t = enumerated_low (n + 1) p xs h in omega (arith, t)
 
 pub low_request : (S : Scenario) → IsWellformed S → (k : ℕ) (r : Request) → slice_get (setup_requests S) k ≡ Some r → r.sim < length S.sims
-low_request S good k r e = elim (in_either r inits_creates dones (at_in r (setup_requests S) k e)) [
-  | inl h ↦ elim (in_either r (map init_of (enumerate_from 0 S.sims)) (map create_of S.groups) h) [
-    | inl i ↦ let t = in_map init_of r (enumerate_from 0 S.sims) i in subst (λ (q : Request). q.sim < length S.sims) (sym t.2) (numbered t.0 t.1)
-    | inr c ↦ let t = in_map create_of r S.groups c in subst (λ (q : Request). q.sim < length S.sims) (sym t.2) (in_each (IsWellformedGroup (length S.sims)) t.0 S.groups good.groups t.1).sim
-  ]
-  | inr d ↦ let t = in_map done_of r (enumerate_from 0 S.sims) d in subst (λ (q : Request). q.sim < length S.sims) (sym t.2) (numbered t.0 t.1)
-]
+low_request S good = of_each_request (λ r. r.sim < length S.sims) S numbered (λ g there. (in_each (IsWellformedGroup (length S.sims)) g S.groups good.groups there).sim) numbered
   where
-    init_of : ℕ × SimPart → Request
-    init_of n = record { sim = n.0; call = Init n.1.id n.1.params }
-
-    create_of : Group → Request
-    create_of g = record { sim = g.sim.0; call = Create g.num g.model g.params }
-
-    done_of : ℕ × SimPart → Request
-    done_of n = record { sim = n.0; call = SetupDone }
-
-    inits_creates : List Request
-    inits_creates = map init_of (enumerate_from 0 S.sims) ++ map create_of S.groups
-
-    dones : List Request
-    dones = map done_of (enumerate_from 0 S.sims)
-
     numbered : (p : ℕ × SimPart) → IsIn p (enumerate_from 0 S.sims) → p.0 < length S.sims
     numbered p h = let t = enumerated_low 0 p S.sims h in omega (arith, t)
 

@@ -3,7 +3,7 @@ use Rattle.std.proofs.Common.{◌≡◌, ℕ, zero, suc, ◌+◌, ◌==◌, Bool
 use Rattle.std.specs.Prelude.{option_map}
 use Rattle.std.specs.List.{cons_option, enumerate_from}
 use Rattle.mk_base.specs.Lists.{IsIn}
-use Rattle.mk_base.proofs.Lists.{none_some, some_same, append_nil, filter_map_append, in_either}
+use Rattle.mk_base.proofs.Lists.{none_some, some_same, append_nil, at_in, filter_map_append, in_either, in_map}
 use Rattle.mk_plan.specs.declared.Call.{Call}
 use Rattle.mk_plan.specs.declared.Call.TheVariants.{Init, Create, SetupDone}
 use Rattle.mk_plan.specs.declared.Message.{Message}
@@ -51,32 +51,18 @@ fold_pushed : {X Y : Type 0} (f : X → Y → X) (x : X) (ys : List Y) (y : Y) �
 fold_pushed f x [] y = refl
 fold_pushed f x (z ∷ ys) y = fold_pushed f (f x z) ys y
 
-pub in_at : {X : Type 0} (k : ℕ) (x : X) (xs : List X) → slice_get xs k ≡ Some x → IsIn x xs
-in_at k x [] e = absurd (none_some e)
-in_at zero x (y ∷ ys) e = inl (sym (some_same e))
-in_at (suc k) x (y ∷ ys) e = inr (in_at k x ys e)
-
 -- ---- what every request is
 
-in_map : {X Y : Type 0} (f : X → Y) (y : Y) (xs : List X) → IsIn y (map f xs) → (x : X) × IsIn x xs × (y ≡ f x)
-in_map f y [] h = absurd h
-in_map f y (x ∷ xs) (inl e) = (x, inl refl, e)
-in_map f y (x ∷ xs) (inr h) = let t = in_map f y xs h in (t.0, inr t.1, t.2)
-
-in_enumerated : {X : Type 0} (n : ℕ) (p : ℕ × X) (xs : List X) → IsIn p (enumerate_from n xs) → IsIn p.1 xs
-in_enumerated n p [] h = absurd h
-in_enumerated {X} n p (x ∷ xs) (inl e) = inl (ap (λ (q : ℕ × X). q.1) e)
-in_enumerated n p (x ∷ xs) (inr h) = inr (in_enumerated (n + 1) p xs h)
-
--- what holds of the calls of all simulators and groups holds of each request
-pub of_each_request : (Q : Call → Type 0) (S : Scenario) → ((s : SimPart) → IsIn s S.sims → Q (Init s.id s.params)) → ((g : Group) → IsIn g S.groups → Q (Create g.num g.model g.params)) → Q SetupDone
-    → (k : ℕ) (r : Request) → slice_get (setup_requests S) k ≡ Some r → Q r.call
-of_each_request Q S inits creates done k r e = elim (in_either r inits_creates dones (in_at k r (setup_requests S) e)) [
+-- what holds of the requests for all simulators and groups holds of each
+pub of_each_request : (Q : Request → Type 0) (S : Scenario) → ((n : ℕ × SimPart) → IsIn n (enumerate_from 0 S.sims) → Q (record { sim = n.0; call = Init n.1.id n.1.params }))
+    → ((g : Group) → IsIn g S.groups → Q (record { sim = g.sim.0; call = Create g.num g.model g.params })) → ((n : ℕ × SimPart) → IsIn n (enumerate_from 0 S.sims) → Q (record { sim = n.0; call = SetupDone }))
+    → (k : ℕ) (r : Request) → slice_get (setup_requests S) k ≡ Some r → Q r
+of_each_request Q S inits creates setups k r e = elim (in_either r inits_creates dones (at_in r (setup_requests S) k e)) [
   | inl h ↦ elim (in_either r (map init_of (enumerate_from 0 S.sims)) (map create_of S.groups) h) [
-    | inl i ↦ let t = in_map init_of r (enumerate_from 0 S.sims) i in subst (λ (q : Request). Q q.call) (sym t.2) (inits (t.0).1 (in_enumerated 0 t.0 S.sims t.1))
-    | inr c ↦ let t = in_map create_of r S.groups c in subst (λ (q : Request). Q q.call) (sym t.2) (creates t.0 t.1)
+    | inl i ↦ let t = in_map init_of r (enumerate_from 0 S.sims) i in subst Q (sym t.2) (inits t.0 t.1)
+    | inr c ↦ let t = in_map create_of r S.groups c in subst Q (sym t.2) (creates t.0 t.1)
   ]
-  | inr d ↦ let t = in_map done_of r (enumerate_from 0 S.sims) d in subst (λ (q : Request). Q q.call) (sym t.2) done
+  | inr d ↦ let t = in_map done_of r (enumerate_from 0 S.sims) d in subst Q (sym t.2) (setups t.0 t.1)
 ]
   where
     init_of : ℕ × SimPart → Request
@@ -96,7 +82,7 @@ of_each_request Q S inits creates done k r e = elim (in_either r inits_creates d
 
 -- each request gets a reply
 pub are_replied : (S : Scenario) (k : ℕ) (r : Request) → slice_get (setup_requests S) k ≡ Some r → IsCallReplied r.call
-are_replied S = of_each_request IsCallReplied S (λ s there. tt) (λ g there. tt) tt
+are_replied S = of_each_request (λ r. IsCallReplied r.call) S (λ n there. tt) (λ g there. tt) (λ n there. tt)
 
 -- ---- answers
 
