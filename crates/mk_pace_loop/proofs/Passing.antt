@@ -40,7 +40,7 @@ use Rattle.mk_pace_loop.proofs.Queueing.{has_channel_moved, nap_moved, told_move
 use Rattle.mk_pace_laws.proofs.Ordering.{in_order_later}
 use Rattle.mk_pace_laws.proofs.Timely.{timely_more, told_later}
 use Rattle.mk_base.proofs.Items.{not_empty, same_heads}
-use Rattle.mk_run_crew.proofs.Halting.{RestRight}
+use Rattle.mk_run_crew.specs.Halted.{RestRight}
 
 -- ---- entries
 

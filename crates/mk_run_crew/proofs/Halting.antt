@@ -36,9 +36,9 @@ use Rattle.mk_run_links.specs.Places.{Channels, at, crew}
 use Rattle.mk_run_crew.specs.declared.halt.Halt.{Halt}
 use Rattle.mk_run_crew.specs.declared.halt.Halt.TheVariants as halt
 use Rattle.mk_run_crew.specs.Answers.{answers_to, AreHeard, AreKindAnswers}
-use Rattle.mk_run_crew.specs.inner.Asking.{AsksNot, AsksInVain, AsksWithin, AsksOnLink, IsAnswered, IsHalting, IsLongCall, setup_halt}
+use Rattle.mk_run_crew.specs.inner.Asking.{AreAt, AsksNot, AsksInVain, AsksWithin, AsksOnLink, IsAnswered, IsHalting, IsLongCall, setup_halt}
 use Rattle.mk_run_crew.specs.Calls.{halt_of}
-use Rattle.mk_run_crew.specs.Halted.{IsAskedUpTo, IsSetupFault, ShowsCause, count_to}
+use Rattle.mk_run_crew.specs.Halted.{IsAskedUpTo, IsSetupFault, RestRight, ShowsCause, count_to}
 use Rattle.mk_run_crew.specs.Seen.{CrewSeen, is_here}
 use Rattle.mk_run_crew.proofs.Going.{asked_on, heard_moved, heard_there, set_up_so, within_more, within_so}
 use Rattle.mk_run_crew.proofs.Requests.{answers_pushed, count_pushed, cut_at, kinds_pushed}
@@ -65,14 +65,6 @@ last_in test (x ∷ xs) e is = elim (last_that test xs) as (λ o. last_that test
   | None ↦ λ q r. inl (here_is (test x) x e r)
   | Some y ↦ λ q r. inr (last_in test xs e (q ∙ r))
 ] refl is
-
--- the channel of each link has come so far, these requests having been queued
-abbrev pub AreAt : ℕ → Scenario → List LogEntry → List Request → Channels → Type 0
-AreAt started S log queued L = (i : ℕ) (l : LinkNo) → sim_link started S i ≡ Some l → (ms : List Message) × (w : Channel) × (at L i ≡ Some w) × (w.link ≡ l) × IsChannelAt log ms (call_payloads 0 (filter_map (call_to i) queued)) (count_to i queued) w
-
--- where the fleet rested, what was asked by then had been said, and not all had set up
-abbrev pub RestRight : ℕ → Scenario → List LogEntry → Type 0
-RestRight started S log = (before after : List LogEntry) → log ≡ before ++ Rest ∷ after → IsWellInSetup started S before × (AllSetUp started S before → ⊥)
 
 module _ (started : ℕ) (S : Scenario) (ranks : List ℕ) (rows : List Turn) where
   -- ---- between two requests

@@ -82,6 +82,11 @@ ShowsCause A risen queued later (halt.LongItem sim n) = IsLongRequest A.started 
     later sim.0 n
 ShowsCause A risen queued later halt.Mem = ⊤
 
+-- where the fleet rested, what was asked by then had been said, and not all had set up
+abbrev pub RestRight : ℕ → Scenario → List LogEntry → Type 0
+RestRight started S log = (before after : List LogEntry) → log ≡ before ++ Rest ∷ after
+    → IsWellInSetup started S before × (AllSetUp started S before → ⊥)
+
 -- the handshake ended early: on each link a beginning of the frames of the first requests and of a
 -- stop was said, none with a payload longer than a frame's may be, and all of it, unless a write
 -- took nothing or the count of faults rose, or memory was wanting before anything was said or heard
@@ -96,7 +101,6 @@ pub record HasHalted (A : Attempt) (risen : Type 0) (h : Halt) : Type 0 where
   pub whole : ((h ≡ halt.Mem) × (A.log ≡ []) → ⊥) → (i : ℕ) (l : LinkNo)
       → sim_link A.started A.scenario i ≡ Some l
       → SaidWhole A.scenario A.log risen i l (count_to i queued) []
-  pub rests : (before after : List LogEntry) → A.log ≡ before ++ Rest ∷ after
-      → IsWellInSetup A.started A.scenario before × (AllSetUp A.started A.scenario before → ⊥)
+  pub rests : RestRight A.started A.scenario A.log
   pub cause : ShowsCause A risen queued later h
   pub on_links : AreOnOrOfClock (IsRunLink A.started A.scenario) A.log

@@ -1,12 +1,11 @@
 -- For proofs alone. What one request of a handshake comes to, and a handshake so far.
-use Rattle.std.specs.Prelude.{◌≡◌, ℕ, ◌+◌, ◌<◌, ◌⊎◌, true, false, List, [], ◌∷◌, ◌++◌, length, take, drop, filter_map, map, Option, Some, None, Ok}
+use Rattle.std.specs.Prelude.{◌≡◌, ℕ, ◌+◌, ◌<◌, ◌⊎◌, true, false, List, [], ◌++◌, length, take, drop, filter_map, map, Option, Some, None, Ok}
 use Rattle.mk_base.specs.declared.LinkNo.{LinkNo}
 use Rattle.mk_base.specs.declared.SimNo.{SimNo}
 use Rattle.mk_base.specs.Lists.{IsIn}
 use Rattle.mk_frame.specs.Frames.{limit}
 use Rattle.mk_message.specs.Written.{call_text}
 use Rattle.mk_outside.specs.declared.fleet.LogEntry.{LogEntry}
-use Rattle.mk_outside.specs.declared.fleet.LogEntry.TheVariants.{Rest}
 use Rattle.mk_plan.specs.declared.Call.{Call}
 use Rattle.mk_plan.specs.declared.Message.{Message}
 use Rattle.mk_plan.specs.Sequential.{Messages}
@@ -20,7 +19,6 @@ use Rattle.mk_run_laws.specs.Channels.{Channel, IsChannelAt, queued}
 use Rattle.mk_run_laws.specs.Crews.{IsHeard, IsUnheard}
 use Rattle.mk_run_laws.specs.Handshake.{Request, setup_requests, call_to, call_payloads, sim_link}
 use Rattle.mk_run_laws.specs.Payloads.{IsFramed}
-use Rattle.mk_run_laws.specs.Rests.{AllSetUp, IsWellInSetup}
 use Rattle.mk_run_laws.specs.inner.Running.{IsBetween}
 use Rattle.mk_setup.specs.declared.fault.SetupFault.{SetupFault}
 use Rattle.mk_setup.specs.declared.fault.SetupFault.TheVariants as fault
@@ -41,7 +39,7 @@ use Rattle.mk_run_crew.specs.declared.halt.Halt.TheVariants as halt
 use Rattle.mk_run_crew.specs.Answers.{answers_to, sim_after, AreKindAnswers}
 use Rattle.mk_run_crew.specs.Begun.{HasBegun}
 use Rattle.mk_run_crew.specs.Calls.{halt_of}
-use Rattle.mk_run_crew.specs.Halted.{ShowsCause, count_to}
+use Rattle.mk_run_crew.specs.Halted.{RestRight, ShowsCause, count_to}
 use Rattle.mk_run_crew.specs.Seen.{CrewSeen, within_of, is_here}
 
 -- simulator i, within the program, answered at once
@@ -243,17 +241,20 @@ abbrev pub ComesTo : Attempt → Stage → CrewSeen → SetupState → Type 0
 ComesTo A (stages.Linked sim call id) C V = IsLinkNext A sim call id C V
 ComesTo A (stages.Planned P) C V = HasBegun A C P
 
+-- the channel of each link has come so far, these requests having been queued
+abbrev pub AreAt : ℕ → Scenario → List LogEntry → List Request → Channels → Type 0
+AreAt started S log queued L = (i : ℕ) (l : LinkNo) → sim_link started S i ≡ Some l
+    → (ms : List Message) × (w : Channel) × (at L i ≡ Some w) × (w.link ≡ l)
+    × IsChannelAt log ms (call_payloads 0 (filter_map (call_to i) queued)) (count_to i queued) w
+
 -- the handshake has ended early, and the crew is still to be stopped
 pub record IsHalting (A : Attempt) (risen : Type 0) (h : Halt) (C : CrewSeen) : Type 0 where
   pub queued : List Request
   pub later : List Request
   pub parts : setup_requests A.scenario ≡ queued ++ later
-  pub channels : (i : ℕ) (l : LinkNo) → sim_link A.started A.scenario i ≡ Some l
-      → (ms : List Message) × (w : Channel) × (at C.channels i ≡ Some w) × (w.link ≡ l)
-      × IsChannelAt A.log ms (call_payloads 0 (filter_map (call_to i) queued)) (count_to i queued) w
+  pub channels : AreAt A.started A.scenario A.log queued C.channels
   pub back : (i : ℕ) (w : Channel) → at C.channels i ≡ Some w → (l : LinkNo)
       × (sim_link A.started A.scenario i ≡ Some l)
-  pub rests : (before after : List LogEntry) → A.log ≡ before ++ Rest ∷ after
-      → IsWellInSetup A.started A.scenario before × (AllSetUp A.started A.scenario before → ⊥)
+  pub rests : RestRight A.started A.scenario A.log
   pub cause : ShowsCause A risen queued later h
   pub on_links : AreOn (IsRunLink A.started A.scenario) A.log
