@@ -25,6 +25,7 @@ use Rattle.mk_scenario.specs.Ids.{id_of_sim}
 use Rattle.mk_connect.proofs.ByPlaces.{range_get}
 use Rattle.mk_setup.proofs.Replied.{ok_err, ok_same}
 use Rattle.mk_base.proofs.Guessing.{text_is}
+use Rattle.mk_base.specs.Limits.{most_entities}
 
 some_none : {X : Type 0} {x : X} → Some x ≡ None → ⊥
 some_none e = none_some (sym e)
@@ -85,7 +86,7 @@ module _ (old : List EntityInfo) (sim : SimNo) (group num : ℕ) (model : List �
   right_type : (number : List ℕ → Option ℕ) (count n : ℕ) (d : Described) → entity_fault number count model meta n d ≡ None → has_type model meta d ≡ true
   right_type number count n d e = go d.eid e
     where
-      go : (o : Option (List ℕ)) → creation.after_text (NoEid n) o (λ eid. verdicts.fault_unless (TwiceEid eid) (not (is_some (number eid))) (verdicts.fault_unless (OfType eid) (has_type model meta d) (verdicts.fault_unless (TooMany (creation.most_entities + 1)) (nat_lt count creation.most_entities) None))) ≡ None → has_type model meta d ≡ true
+      go : (o : Option (List ℕ)) → creation.after_text (NoEid n) o (λ eid. verdicts.fault_unless (TwiceEid eid) (not (is_some (number eid))) (verdicts.fault_unless (OfType eid) (has_type model meta d) (verdicts.fault_unless (TooMany (most_entities + 1)) (nat_lt count most_entities) None))) ≡ None → has_type model meta d ≡ true
       go None h = absurd (some_none h)
       go (Some eid) h = (held_none (OfType eid) (has_type model meta d) _ (held_none (TwiceEid eid) _ _ h).1).0
 
