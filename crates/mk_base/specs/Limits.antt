@@ -17,6 +17,10 @@ most_entries = 20000000
 abbrev pub most_sims : ℕ
 most_sims = 200
 
+-- the greatest rank of a simulator, ranks going from 0 up without a gap
+abbrev pub highest_rank : ℕ
+highest_rank = 199
+
 -- the most models of a simulator
 abbrev pub most_models : ℕ
 most_models = 10000
@@ -40,6 +44,10 @@ widest = 1000000
 -- the greatest tier of an output
 abbrev pub greatest_tier : ℕ
 greatest_tier = 1000000
+
+-- the greatest size of the demo scenario
+abbrev pub largest_demo : ℕ
+largest_demo = 100
 
 -- the most milliseconds that a paced run may be given for a unit of time, or for how late it may be: a day
 abbrev pub most_milliseconds : ℕ

@@ -12,6 +12,9 @@ pub const MOST_ENTRIES: u32 = 20_000_000;
 /// The most simulators.
 pub const MOST_SIMS: u32 = 200;
 
+/// The greatest rank of a simulator: ranks go from 0 up without a gap.
+pub const HIGHEST_RANK: u32 = 199;
+
 /// The most models of a simulator.
 pub const MOST_MODELS: u32 = 10_000;
 
@@ -26,3 +29,9 @@ pub const MOST_REQUESTS: u32 = 1_000_000;
 
 /// The greatest width of a time shift, in the scenario's unit.
 pub const WIDEST: u32 = 1_000_000;
+
+/// How deep a value that a simulator gives or gets may nest: the most lists and objects in one another.
+pub const VALUE_DEPTH: u32 = 100;
+
+/// The greatest size of the demo scenario.
+pub const LARGEST_DEMO: u32 = 100;

@@ -94,7 +94,8 @@ fn told(read: Result<Message, u8>) -> Result<Message, ReadFault>
 /// the tests 2 to 5 that the tree fails.
 pub fn take_tree(tree: Json) -> Result<Message, u8>
     ensures value { result ≡ message_in tree }
-    ensures in_range { IfOk result (λ m. trees.is_in_range tree ≡ true → is_message_in_range m ≡ true) }
+    ensures in_range { IfOk result
+        (λ m. trees.is_in_range tree ≡ true → is_message_in_range m ≡ true) }
 {
     message_of_tree(tree)
 }

@@ -30,21 +30,11 @@ use Rattle.mk_plan.specs.Ready.{start, IsReady}
 use Rattle.mk_plan.specs.Advance.{IsOuter, IsComing, IsAdvance, bounded, unbounded, IsPromised}
 use Rattle.mk_plan.specs.Orderly.{IsOrderly, IsEager}
 use Rattle.mk_plan.specs.Agreement.{IsFinished}
-use Rattle.mk_plan.proofs.Rows.{one_sim}
-
-abbrev number : ℕ → Json
-number n = j.Whole (pos n)
+use Rattle.mk_plan.proofs.Rows.{number, one_sim, the_first, value_and_time}
 
 -- the output of entity 0
 abbrev out : ℕ → Json
 out n = j.Object ((codes "0", j.Object ((codes "out", number n) ∷ [])) ∷ [])
-
--- the same, with the time of its making
-abbrev out_at : ℕ → ℕ → Json
-out_at n t = j.Object ((codes "0", j.Object ((codes "out", number n) ∷ [])) ∷ (codes "time", number t) ∷ [])
-
-abbrev the_first : SimNo
-the_first = record { 0 = 0 }
 
 abbrev the_second : SimNo
 the_second = record { 0 = 1 }
@@ -152,7 +142,7 @@ feeder = run_of 10
 abbrev fed_once : List Entry
 fed_once =
     Sent the_first (Step (moment (pos 0)) [] (pos 10)) ∷ Got the_first (Success 3 j.Null)
-    ∷ Sent the_first (GetData (wanted feeder 0)) ∷ Got the_first (Success 4 (out_at 5 3)) ∷ []
+    ∷ Sent the_first (GetData (wanted feeder 0)) ∷ Got the_first (Success 4 (value_and_time 5 3)) ∷ []
 
 -- then that at 1, without output
 abbrev fed_twice : List Entry

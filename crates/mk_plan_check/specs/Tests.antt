@@ -16,7 +16,7 @@ use Rattle.mk_plan.specs.declared.Conn.{Conn}
 use Rattle.mk_plan.specs.declared.AsyncPair.{AsyncPair}
 use Rattle.mk_plan.specs.Plans.{owner, eid_of, kind_of, rank_of, dot}
 use Rattle.mk_plan_check.specs.Nesting.{nesting_of}
-use Rattle.mk_base.specs.Limits.{latest_end, most_loops, most_entries, most_sims, most_models, most_entities, most_conns, most_requests, widest}
+use Rattle.mk_base.specs.Limits.{highest_rank, latest_end, most_loops, most_entries, most_sims, most_models, most_entities, most_conns, most_requests, widest}
 
 -- the test holds between each item and each later one
 abbrev pub all_apart : {X : Type 0} → (X → X → Bool) → List X → Bool
@@ -41,7 +41,8 @@ abbrev pub event_fits : ℤ → Bool
 event_fits e = int_le (pos 0) e && int_le e latest_end
 
 abbrev pub sim_fits : PlanSim → Bool
-sim_fits s = nat_le s.rank 199 && nat_le s.first_id most_requests && list_all event_fits s.initial
+sim_fits s = nat_le s.rank highest_rank && nat_le s.first_id most_requests
+    && list_all event_fits s.initial
 
 -- how many models a simulator has
 abbrev pub models_of : Plan → ℕ → ℕ

@@ -8,8 +8,8 @@ ghost use Rattle.std.specs.List.{list_all};
 
 use crate::nesting::text_nesting;
 use mk_base::{
-    Datum, LATEST_END, MOST_CONNS, MOST_ENTITIES, MOST_ENTRIES, MOST_LOOPS, MOST_MODELS,
-    MOST_REQUESTS, MOST_SIMS, Via, WIDEST,
+    Datum, HIGHEST_RANK, LATEST_END, MOST_CONNS, MOST_ENTITIES, MOST_ENTRIES, MOST_LOOPS,
+    MOST_MODELS, MOST_REQUESTS, MOST_SIMS, VALUE_DEPTH, Via, WIDEST,
 };
 use mk_plan::{Conn, Plan, PlanSim};
 
@@ -48,7 +48,7 @@ fn events_fit(events: &[i64]) -> bool
 fn sim_fits(sim: &PlanSim) -> bool
     ensures { result ≡ sim_fits sim.now }
 {
-    sim.rank <= 199
+    sim.rank <= HIGHEST_RANK
         && sim.first_id <= u64::from(MOST_REQUESTS)
         && events_fit(sim.initial.as_slice())
 }
@@ -81,7 +81,7 @@ fn initial_fits(initial: &Option<Datum>) -> bool
 {
     match initial {
         None => true,
-        Some(datum) => text_nesting(datum.bytes()) <= 100,
+        Some(datum) => text_nesting(datum.bytes()) <= VALUE_DEPTH as usize,
     }
 }
 

@@ -131,7 +131,8 @@ fn put_last(wants: &mut List<Want>, taking: &Taking) -> Result<(), Mem>
 
 // Whether the last want, if there is one, is another one.
 fn is_new(wants: &[Want], taking: &Taking) -> bool
-    ensures { result ≡ unwrap_or (option_map (λ w. not (is_eq (want_order w (want_taken taking.now))))
+    ensures { result ≡ unwrap_or
+        (option_map (λ w. not (is_eq (want_order w (want_taken taking.now))))
         (slice_get wants.now (length wants.now - 1))) true }
 {
     match wants.last() {

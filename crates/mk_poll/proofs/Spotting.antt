@@ -3,13 +3,11 @@ use Rattle.std.proofs.Common.{◌≡◌, ◌⊎◌, ℕ, zero, suc, ◌<◌, ◌
 use Rattle.std.proofs.lemmas.Bool.{cases_eq}
 use Rattle.mk_base.specs.declared.LinkNo.{LinkNo}
 use Rattle.mk_base.proofs.Items.{front_get, get_last}
+use Rattle.mk_base.proofs.Links.{same_number}
 use Rattle.mk_base.proofs.Lists.{get_is, below_get, none_some, some_same, set_else, set_here}
 use Rattle.mk_poll.specs.Links.{times_in}
 use Rattle.mk_poll.specs.inner.Links.{AreAt, AreMore, IsSpotSet, spot_at}
 use Rattle.mk_poll.proofs.Lifting.{times_at}
-
-same_number : (x y : LinkNo) → x.0 ≡ y.0 → x ≡ y
-same_number x y e = ap (λ (n : ℕ). let link : LinkNo = record { 0 = n } in link) e
 
 get_either : {X : Type 0} (xs : List X) (y : X) (i : ℕ) (x : X) → slice_get (xs ++ y ∷ []) i ≡ Some x → (slice_get xs i ≡ Some x) ⊎ ((i ≡ length xs) × (x ≡ y))
 get_either [] y zero x e = inr (refl, sym (some_same e))

@@ -11,7 +11,7 @@ use Rattle.mk_plan.specs.Journals.{Arrival}
 use Rattle.mk_message.specs.Messages.{message_in, tested}
 use Rattle.mk_record_read.specs.Fields.{misformed, out_of_limits, limited, is_between, is_below, wholes_in, initial_in, way_in, via_of}
 use Rattle.mk_record_read.specs.declared.saved.Asked.{Asked}
-use Rattle.mk_base.specs.Limits.{latest_end, most_loops, most_entries, most_entities, most_requests}
+use Rattle.mk_base.specs.Limits.{highest_rank, latest_end, most_loops, most_entries, most_entities, most_requests}
 
 abbrev pub run_fits : ℤ → ℤ → ℤ → Bool
 run_fits until loops entries = is_between (pos 1) latest_end until
@@ -31,7 +31,7 @@ event_fits = is_between (pos 0) latest_end
 
 abbrev pub sim_fits : ℤ → ℤ → List ℤ → Bool
 sim_fits first_id rank events = is_between (pos 0) (pos most_requests) first_id
-    && is_between (pos 0) (pos 199) rank && list_all event_fits events
+    && is_between (pos 0) (pos highest_rank) rank && list_all event_fits events
 
 -- `sim [id,type,first_id,rank,[initial events]]`
 abbrev pub with_sim : Plan → List Json → Result Plan ℕ

@@ -21,8 +21,8 @@ use crate::fields::{
 use crate::kinds::Version;
 use crate::saved::{Arrival, Asked};
 use mk_base::{
-    Datum, Json, LATEST_END, List, MOST_ENTITIES, MOST_ENTRIES, MOST_LOOPS, MOST_REQUESTS, Mem,
-    SimKind, SimNo, Text, Tier, Via,
+    Datum, HIGHEST_RANK, Json, LATEST_END, List, MOST_ENTITIES, MOST_ENTRIES, MOST_LOOPS,
+    MOST_REQUESTS, Mem, SimKind, SimNo, Text, Tier, Via,
 };
 use mk_message::take_tree;
 use mk_plan::{AsyncPair, Conn, Message, Plan, PlanEntity, PlanModel, PlanSim};
@@ -165,7 +165,9 @@ fn sim_of(
 fn sim_fits(first_id: i128, rank: i128, events: &[i128]) -> bool
     ensures { result ≡ sim_fits first_id rank events.now }
 {
-    is_from(0, i128::from(MOST_REQUESTS), first_id) && is_from(0, 199, rank) && events_fit(events)
+    is_from(0, i128::from(MOST_REQUESTS), first_id)
+        && is_from(0, i128::from(HIGHEST_RANK), rank)
+        && events_fit(events)
 }
 
 fn events_fit(events: &[i128]) -> bool

@@ -6,8 +6,7 @@ use Rattle.std.proofs.lemmas.Option.{slice_get_within, get_or_from_slice_get}
 use Rattle.std.specs.declared.cmp.Ordering.{Ordering}
 use Rattle.std.specs.declared.cmp.Ordering.TheVariants.{Less, Equal, Greater}
 use Rattle.mk_base.specs.declared.json.Json.{Json}
-use Rattle.std.specs.Ordering.{ordering_then}
-use Rattle.mk_base.specs.Lists.{IsIn, Each, put, placed, text_order}
+use Rattle.mk_base.specs.Lists.{IsIn, Each, put, placed}
 use Rattle.mk_base.proofs.Lists.{some_same, none_some, below_get, in_filter}
 use Rattle.mk_plan.specs.declared.Call.{Call}
 use Rattle.mk_plan.specs.declared.Call.TheVariants.{Init, Create, SetupDone, Stop}
@@ -18,7 +17,7 @@ use Rattle.mk_plan.specs.declared.Plan.{Plan}
 use Rattle.mk_plan.specs.declared.PlanEntity.{PlanEntity}
 use Rattle.mk_plan.specs.declared.Want.{Want}
 use Rattle.mk_plan.specs.Plans.{IsValidPlan, kind_of, owner, eid_of, first_id, sim_count}
-use Rattle.mk_plan.specs.Turns.{wanted, want_of}
+use Rattle.mk_plan.specs.Turns.{wanted, want_of, want_order}
 use Rattle.mk_meta.specs.declared.meta.Meta.{Meta}
 use Rattle.mk_meta.specs.Metadata.{meta_in}
 use Rattle.mk_scenario.specs.declared.parts.SimPart.{SimPart}
@@ -74,22 +73,18 @@ same_meta T content m accepted is read = ap (λ (n : Meta). n.kind) (same_ok m (
 
 -- ---- what is wanted
 
--- by eid, then attribute
-abbrev by_want : Want → Want → Ordering
-by_want a b = ordering_then (text_order a.eid b.eid) (text_order a.attr b.attr)
-
-put_each : (Q : Want → Type 0) (w : Want) (ws : List Want) → Q w → Each Q ws → Each Q (put by_want w ws)
+put_each : (Q : Want → Type 0) (w : Want) (ws : List Want) → Q w → Each Q ws → Each Q (put want_order w ws)
 put_each Q w [] here all = (here, tt)
-put_each Q w (v ∷ ws) here all = by_order (by_want w v) (put_each Q w ws here all.1)
+put_each Q w (v ∷ ws) here all = by_order (want_order w v) (put_each Q w ws here all.1)
   where
-    by_order : (o : Ordering) → Each Q (put by_want w ws) → Each Q (placed o w v ws (put by_want w ws))
+    by_order : (o : Ordering) → Each Q (put want_order w ws) → Each Q (placed o w v ws (put want_order w ws))
     by_order Less rest = (here, (all.0, all.1))
     by_order Equal rest = (here, all.1)
     by_order Greater rest = (all.0, rest)
 
-puts_each : (Q : Want → Type 0) (P : Plan) (cs : List Conn) (ws : List Want) → ((c : Conn) → IsIn c cs → Q (want_of P c)) → Each Q ws → Each Q (fold (λ (l : List Want) (c : Conn). put by_want (want_of P c) l) ws cs)
+puts_each : (Q : Want → Type 0) (P : Plan) (cs : List Conn) (ws : List Want) → ((c : Conn) → IsIn c cs → Q (want_of P c)) → Each Q ws → Each Q (fold (λ (l : List Want) (c : Conn). put want_order (want_of P c) l) ws cs)
 puts_each Q P [] ws each all = all
-puts_each Q P (c ∷ cs) ws each all = puts_each Q P cs (put by_want (want_of P c) ws) (λ d m. each d (inr m)) (put_each Q (want_of P c) ws (each c (inl refl)) all)
+puts_each Q P (c ∷ cs) ws each all = puts_each Q P cs (put want_order (want_of P c) ws) (λ d m. each d (inr m)) (put_each Q (want_of P c) ws (each c (inl refl)) all)
 
 at_place : {X : Type 0} (x : X) (xs : List X) → IsIn x xs → (i : ℕ) × (slice_get xs i ≡ Some x)
 at_place x [] m = absurd m

@@ -19,9 +19,6 @@ use Rattle.mk_run_links.specs.inner.Standing.{HasTurn, AreApart, StandsBut, Have
 use Rattle.mk_base.proofs.Counts.{not_same, same_or_not, same_self}
 use Rattle.mk_launch.proofs.Placing.{without_itself}
 
-same_number : (x y : LinkNo) → x.0 ≡ y.0 → x ≡ y
-same_number x y e = ap (λ (n : ℕ). let l : LinkNo = record { 0 = n } in l) e
-
 -- where one channel is set, each channel was on its link before
 pub set_back : (s : ℕ) (w v : Channel) (L M : Channels) → IsSet s w v L M → v.link ≡ w.link → (i : ℕ) (u : Channel) → at M i ≡ Some u → (o : Channel) × (at L i ≡ Some o) × (u.link ≡ o.link)
 set_back s w v L M set same i u e = elim (same_or_not i s) [

@@ -14,7 +14,7 @@ use Rattle.mk_scenario.specs.Groups.{group_in}
 use Rattle.mk_scenario.specs.Blocks.{block_in}
 use Rattle.mk_scenario.specs.declared.parts.SimPart.{SimPart}
 use Rattle.mk_scenario.specs.declared.parts.Scenario.{Scenario}
-use Rattle.mk_base.specs.Limits.{latest_end, most_loops, most_entries}
+use Rattle.mk_base.specs.Limits.{latest_end, most_conns, most_entities, most_entries, most_loops, most_sims}
 
 -- the ids of the simulators
 abbrev pub ids_of : List SimPart → List (List ℕ)
@@ -46,11 +46,11 @@ scenario_in document =
     (member (codes "max_loop_iterations") document)) (λ loops.
     passed (optional 2000000 (codes "max_entries") (count_within 1 most_entries)
     (member (codes "max_entries") document)) (λ entries.
-    passed (required (codes "sim") (tables_within 1 200) (member (codes "sim") document))
+    passed (required (codes "sim") (tables_within 1 most_sims) (member (codes "sim") document))
     (λ sim_tables.
-    passed (optional [] (codes "entities") (tables_within 0 10000)
+    passed (optional [] (codes "entities") (tables_within 0 most_entities)
     (member (codes "entities") document)) (λ group_tables.
-    passed (optional [] (codes "connect") (tables_within 0 100000)
+    passed (optional [] (codes "connect") (tables_within 0 most_conns)
     (member (codes "connect") document)) (λ block_tables.
     with_parts until loops entries sim_tables group_tables block_tables)))))))
 

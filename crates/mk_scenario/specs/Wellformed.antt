@@ -20,7 +20,7 @@ use Rattle.mk_scenario.specs.declared.parts.Place.TheVariants.{Whole, One, Full}
 use Rattle.mk_scenario.specs.declared.parts.AttrPair.{AttrPair}
 use Rattle.mk_scenario.specs.declared.parts.Block.{Block}
 use Rattle.mk_scenario.specs.declared.parts.Scenario.{Scenario}
-use Rattle.mk_base.specs.Limits.{latest_end, most_loops, most_entries, most_entities}
+use Rattle.mk_base.specs.Limits.{latest_end, most_conns, most_entities, most_entries, most_loops, most_sims}
 
 -- these are names, and the ids are those of simulators of these names, in order
 pub record AreIdsOf (names ids : List (List ℕ)) : Type 0 where
@@ -76,9 +76,9 @@ pub record IsWellformed (S : Scenario) : Type 0 where
   pub until : (pos 1 ≤ℤ S.until) × (S.until ≤ℤ latest_end)
   pub loops : (1 ≤ S.loops) × (S.loops ≤ most_loops)
   pub entries : (1 ≤ S.entries) × (S.entries ≤ most_entries)
-  pub sim_count : (1 ≤ length S.sims) × (length S.sims ≤ 200)
-  pub group_count : length S.groups ≤ 10000
-  pub block_count : length S.blocks ≤ 100000
+  pub sim_count : (1 ≤ length S.sims) × (length S.sims ≤ most_sims)
+  pub group_count : length S.groups ≤ most_entities
+  pub block_count : length S.blocks ≤ most_conns
   pub ids : (names : List (List ℕ)) × AreIdsOf names (ids_of S.sims)
   pub sims : Each IsWellformedSim S.sims
   pub groups : Each (IsWellformedGroup (length S.sims)) S.groups

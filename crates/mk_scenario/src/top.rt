@@ -15,7 +15,7 @@ use mk_scenario_keys::{
 };
 use std::alloc::Global;
 
-// How many groups and blocks of connections a scenario may have: each is of one entity or connection at least.
+// How many groups and blocks of connections a scenario may have: as many as entities, and as connections.
 const MOST_GROUPS: usize = MOST_ENTITIES as usize;
 
 const MOST_BLOCKS: usize = MOST_CONNS as usize;

@@ -2,6 +2,7 @@
 use Rattle.std.proofs.Common.{◌≡◌, ℕ, zero, suc, ◌≤◌, true, refl, sym, ◌∙◌, arith, slice_index_or, Result, Ok, Err, IfOk, subst}
 use Rattle.std.proofs.lemmas.Int.{ints}
 use Rattle.std.specs.Prelude.{codes}
+use Rattle.mk_base.specs.Limits.{largest_demo}
 use Rattle.mk_base.specs.Trees.{is_in_range}
 use Rattle.mk_base.proofs.OnTrees.{trees_compute}
 use Rattle.mk_scenario.specs.declared.parts.Group.{Group}
@@ -16,7 +17,7 @@ unfolding trees_compute
 first = scenario_is_wellformed document (demo_scenario 1) refl document_is_the_demo
 
 -- the households' parameter is a number that a tree may have
-start_in_range : (size : ℕ) → size ≤ 100 → is_in_range (one (codes "start") size) ≡ true
+start_in_range : (size : ℕ) → size ≤ largest_demo → is_in_range (one (codes "start") size) ≡ true
 unfolding trees_compute
 start_in_range size high = grind (arith, ints)
 
@@ -30,7 +31,7 @@ same_id size (suc (suc (suc (suc zero)))) d = refl
 same_id size (suc (suc (suc (suc (suc zero))))) d = refl
 same_id size (suc (suc (suc (suc (suc (suc i)))))) d = refl
 
-pub wellformed : (size : ℕ) → 1 ≤ size → size ≤ 100 → IsWellformed (demo_scenario size)
+pub wellformed : (size : ℕ) → 1 ≤ size → size ≤ largest_demo → IsWellformed (demo_scenario size)
 unfolding trees_compute
 wellformed size low high =
     let g = first.groups.0 in
@@ -72,6 +73,6 @@ wellformed size low high =
       );
     }
 
-pub wellformed_where_made : {E : Type 0} (size : ℕ) → 1 ≤ size → size ≤ 100 → (r : Result Scenario E) → IfOk r (λ s. s ≡ demo_scenario size) → IfOk r (λ s. IsWellformed s)
+pub wellformed_where_made : {E : Type 0} (size : ℕ) → 1 ≤ size → size ≤ largest_demo → (r : Result Scenario E) → IfOk r (λ s. s ≡ demo_scenario size) → IfOk r (λ s. IsWellformed s)
 wellformed_where_made size low high (Ok s) is = subst IsWellformed (sym is) (wellformed size low high)
 wellformed_where_made size low high (Err e) is = tt

@@ -1,5 +1,6 @@
 //! The parts of the demo scenario.
 ghost use Rattle.std.specs.Prelude.{◌≡◌, ◌≤◌, IfOk};
+ghost use Rattle.mk_base.specs.Limits.{largest_demo};
 ghost use Rattle.mk_scenario_demo.specs.Demo.{blocks, demo_scenario, groups, sims};
 ghost use Rattle.mk_scenario.specs.Wellformed.{IsWellformed};
 
@@ -8,11 +9,11 @@ use mk_base::{List, Mem, Via};
 use mk_scenario::{Block, Group, Scenario, SimPart};
 use std::alloc::Global;
 
-/// The demo scenario of this size, 1 to 100: the time goes to 96 times the size, and the size is the parameter `start`
+/// The demo scenario of this size, 1 to 100 (`LARGEST_DEMO`): the time goes to 96 times the size, and the size is the parameter `start`
 /// of the households. Fails for want of memory alone.
 pub fn demo_scenario(alloc: Global, size: u32) -> Result<Scenario, Mem>
     requires low { 1 ≤ size }
-    requires high { size ≤ 100 }
+    requires high { size ≤ largest_demo }
     ensures made { IfOk result (λ s. s ≡ demo_scenario size) }
     ensures wellformed { IfOk result (λ s. IsWellformed s) }
 {
@@ -20,7 +21,7 @@ pub fn demo_scenario(alloc: Global, size: u32) -> Result<Scenario, Mem>
 }
 
 fn scenario(alloc: Global, size: u32) -> Result<Scenario, Mem>
-    requires { size ≤ 100 }
+    requires { size ≤ largest_demo }
     ensures { IfOk result (λ s. s ≡ demo_scenario size) }
 {
     Ok(Scenario {

@@ -68,8 +68,8 @@ impl Sims {
         requires { sim.0 < length self.now }
         ensures place { (P : Plan) → (V : View) → (n : ℕ) → AreSimsOf P V n self.now
             → result ≡ place_at (V.open_at sim.0) }
-        ensures run { (P : Plan) → (V : View) → (n : ℕ) → n ≤ most_entries → AreSimsOf P V n self.now
-            → IsPlaceInRun result }
+        ensures run { (P : Plan) → (V : View) → (n : ℕ) → n ≤ most_entries
+            → AreSimsOf P V n self.now → IsPlaceInRun result }
     {
         self.kept.at(sim.0 as usize).place
     }

@@ -1,5 +1,6 @@
 //! Which request comes next, by how many were answered.
 ghost use Rattle.std.specs.Prelude.{◌≤◌};
+ghost use Rattle.mk_base.specs.Limits.{most_entities, most_sims};
 ghost use Rattle.mk_setup.specs.inner.Stages.{IsStage};
 
 // `init` to this simulator, `create` for this group, `setup_done` to this simulator, or none.
@@ -13,8 +14,8 @@ pub enum Stage {
 
 // The stage of so many simulators and groups after so many replies.
 pub fn stage_of(sims: usize, groups: usize, answered: usize) -> Stage
-    requires few_sims { sims ≤ 200 }
-    requires few_groups { groups ≤ 10000 }
+    requires few_sims { sims ≤ most_sims }
+    requires few_groups { groups ≤ most_entities }
     ensures { IsStage sims groups answered result }
 {
     if answered < sims {

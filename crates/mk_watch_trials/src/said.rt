@@ -5,6 +5,7 @@ use mk_base::Mem;
 use mk_watch::Rules;
 use mosaikrun_endings::Ending;
 use mosaikrun_records::saved_of;
+use mosaikrun_samples::is_wanted;
 use mosaikrun_watch::{tabled, watches_of};
 use std::alloc::Global;
 
@@ -20,19 +21,6 @@ fn outcome(
     let saved = saved_of(alloc, text_of(recorded).as_bytes())?;
     let watches = watches_of(alloc, rules, &saved, spec.as_bytes())?;
     tabled(alloc, rules, saved, watches)
-}
-
-// Whether this line says why there is no text.
-fn is_line(alloc: Global, ending: &Ending, wanted: &str) -> Result<bool, Mem> {
-    let line = ending.line(alloc)?;
-    Ok(line.as_slice() == wanted.as_bytes())
-}
-
-fn is_wanted(alloc: Global, outcome: &Result<Vec<u8>, Ending>, wanted: &str) -> Result<bool, Mem> {
-    match outcome {
-        Ok(text) => Ok(text.as_slice() == wanted.as_bytes()),
-        Err(ending) => is_line(alloc, ending, wanted),
-    }
 }
 
 fn is_said(alloc: Global, rules: &Rules, row: Row) -> Result<bool, Mem> {

@@ -15,7 +15,8 @@ sim_of_rank ranks r = unwrap_or (position (λ x. x == r) ranks) 0
 
 -- the ids of the simulators of the first n ranks, each behind a space
 abbrev pub ids_by_rank : Scenario → List ℕ → ℕ → List ℕ
-ids_by_rank S ranks n = flat_map (λ r. 32 ∷ id_of_sim S.sims (sim_of_rank ranks r)) (range_with_len 0 n)
+ids_by_rank S ranks n =
+    flat_map (λ r. 32 ∷ id_of_sim S.sims (sim_of_rank ranks r)) (range_with_len 0 n)
 
 -- how many simulators, groups and blocks there are, and the simulators' ids in rising rank
 abbrev pub check_text : Scenario → List ℕ → List ℕ

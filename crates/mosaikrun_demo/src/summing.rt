@@ -1,5 +1,6 @@
 //! From a size to the summary of a run of the demo scenario.
 ghost use Rattle.std.specs.Prelude.{◌≡◌, ◌≤◌, IfOk, IfErr, Ok, Err};
+ghost use Rattle.mk_base.specs.Limits.{largest_demo};
 ghost use Rattle.mk_launch.specs.Starts.{AreNumbered};
 ghost use Rattle.mk_local.specs.Registries.{rows_in};
 ghost use Rattle.mosaikrun_run.specs.Outcomes.{HoldsOver};
@@ -23,7 +24,7 @@ pub fn summed<F: Fleet, R: Wait>(
     fleet: &mut F,
 ) -> Result<Vec<u8>, Ending>
     requires low { 1 ≤ size }
-    requires high { size ≤ 100 }
+    requires high { size ≤ largest_demo }
     ensures count { F.faults fleet.old ≤ F.faults fleet.new }
     ensures closed { AreNumbered (F.started fleet.old) (F.open_links fleet.old)
         → F.open_links fleet.new ≡ F.open_links fleet.old }

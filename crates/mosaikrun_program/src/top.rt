@@ -25,7 +25,7 @@ ghost use Rattle.mosaikrun_program.specs.Fleetless.{IsHeldWithin, NeedsNoFleet};
 ghost use Rattle.mosaikrun_program.specs.Headline.{IsRightCall};
 ghost use Rattle.mosaikrun_program.specs.Running.{IsDoneOver};
 ghost use Rattle.mosaikrun_program.specs.Program.{EndedAs, EndsWith, IsStatusOr, KeepsOthers, TookLine};
-ghost use Rattle.mk_base.specs.Limits.{most_milliseconds};
+ghost use Rattle.mk_base.specs.Limits.{largest_demo, most_milliseconds};
 
 use crate::commands::{file_bytes, made, target_of};
 use crate::handing::{hand_out, print};
@@ -397,7 +397,7 @@ fn sum_up<F: Fleet, K: Sink, R: Wait>(
     out: &mut K,
 ) -> Result<(), Ending>
     requires low { 1 ≤ size }
-    requires high { size ≤ 100 }
+    requires high { size ≤ largest_demo }
     ensures summed { (words : List (List ℕ)) → (rules : RulesSeen) → (folder : FolderSeen)
         → folder.files_after ≡ folder.files
         → HoldsOver F.log F.started F.faults (rows_in kinds.now) fleet.old fleet.new

@@ -1,7 +1,7 @@
 //! A call of the program, over a fleet to which no simulator connects or another one.
 
 use mk_base::{List, Mem};
-use mk_fakes::{MemFolder, PlainFleet};
+use mk_fakes::{MemFolder, MemSink, PlainFleet};
 use mk_local::Registry;
 use mk_outside::{Folder, Paced, Sink};
 use mk_watch_read::Rules;
@@ -72,11 +72,28 @@ pub fn status_over<R: Wait, D: Folder, F: Paced, K: Sink, E: Sink>(
     ))
 }
 
-/// Whether just this is saved as `k`: nothing at all where it is `None`.
-pub fn is_saved(folder: &MemFolder, saved: Option<&str>) -> bool {
-    match (folder.file("k"), saved) {
-        (Some(bytes), Some(text)) => bytes == text.as_bytes(),
-        (None, None) => true,
-        _ => false,
+/// What comes of a call: the status, what the outputs have, and what is saved as `k`, nothing at all where it is `None`.
+pub struct Comes {
+    pub status: u8,
+    pub err: &'static str,
+    pub out: &'static str,
+    pub saved: Option<&'static str>,
+}
+
+impl Comes {
+    /// Whether a call came to this.
+    pub fn is_told(&self, status: u8, folder: &MemFolder, out: &MemSink, err: &MemSink) -> bool {
+        status == self.status
+            && err.bytes() == self.err.as_bytes()
+            && out.bytes() == self.out.as_bytes()
+            && self.is_saved(folder)
+    }
+
+    fn is_saved(&self, folder: &MemFolder) -> bool {
+        match (folder.file("k"), self.saved) {
+            (Some(bytes), Some(text)) => bytes == text.as_bytes(),
+            (None, None) => true,
+            _ => false,
+        }
     }
 }

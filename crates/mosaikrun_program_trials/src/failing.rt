@@ -1,6 +1,6 @@
 //! Calls of the program in which one call of the folder or of an output fails.
 
-use crate::calls::{is_saved, status_over};
+use crate::calls::{Comes, status_over};
 use crate::files::{RECORD, SAVED, SUM_RECORD, SUM_STEPS, THREE_STEPS, WITHIN};
 use crate::fleets::answering;
 use mk_base::{List, Mem};
@@ -18,16 +18,12 @@ enum Fails {
     Err,
 }
 
-// Words, the one call that fails, and what comes of it: the status, what the outputs have, and what is saved as `k`, if
-// something is.
+// Words, the one call that fails, and what comes of it.
 struct Row {
     words: &'static [&'static str],
     fails: Fails,
     call: u64,
-    status: u8,
-    err: &'static str,
-    out: &'static str,
-    saved: Option<&'static str>,
+    comes: Comes,
 }
 
 const RUN: &[&str] = &["run", "s", "--record", "k"];
@@ -47,163 +43,199 @@ const ROWS: &[Row] = &[
         words: RUN,
         fails: Fails::Folder,
         call: 0,
-        status: 6,
-        err: FOLDER,
-        out: "",
-        saved: None,
+        comes: Comes {
+            status: 6,
+            err: FOLDER,
+            out: "",
+            saved: None,
+        },
     },
     Row {
         words: RUN,
         fails: Fails::Folder,
         call: 1,
-        status: 6,
-        err: FOLDER,
-        out: "",
-        saved: None,
+        comes: Comes {
+            status: 6,
+            err: FOLDER,
+            out: "",
+            saved: None,
+        },
     },
     Row {
         words: RUN,
         fails: Fails::Folder,
         call: 2,
-        status: 0,
-        err: "",
-        out: THREE_STEPS,
-        saved: Some(SAVED),
+        comes: Comes {
+            status: 0,
+            err: "",
+            out: THREE_STEPS,
+            saved: Some(SAVED),
+        },
     },
     Row {
         words: RUN,
         fails: Fails::Out,
         call: 0,
-        status: 6,
-        err: OUTPUT,
-        out: "",
-        saved: Some(SAVED),
+        comes: Comes {
+            status: 6,
+            err: OUTPUT,
+            out: "",
+            saved: Some(SAVED),
+        },
     },
     Row {
         words: RUN,
         fails: Fails::Out,
         call: 1,
-        status: 0,
-        err: "",
-        out: THREE_STEPS,
-        saved: Some(SAVED),
+        comes: Comes {
+            status: 0,
+            err: "",
+            out: THREE_STEPS,
+            saved: Some(SAVED),
+        },
     },
     Row {
         words: RUN,
         fails: Fails::Err,
         call: 0,
-        status: 0,
-        err: "",
-        out: THREE_STEPS,
-        saved: Some(SAVED),
+        comes: Comes {
+            status: 0,
+            err: "",
+            out: THREE_STEPS,
+            saved: Some(SAVED),
+        },
     },
     Row {
         words: REPLAY,
         fails: Fails::Folder,
         call: 0,
-        status: 6,
-        err: FOLDER,
-        out: "",
-        saved: None,
+        comes: Comes {
+            status: 6,
+            err: FOLDER,
+            out: "",
+            saved: None,
+        },
     },
     Row {
         words: REPLAY,
         fails: Fails::Folder,
         call: 1,
-        status: 0,
-        err: "",
-        out: SUM_STEPS,
-        saved: None,
+        comes: Comes {
+            status: 0,
+            err: "",
+            out: SUM_STEPS,
+            saved: None,
+        },
     },
     Row {
         words: REPLAY,
         fails: Fails::Out,
         call: 0,
-        status: 6,
-        err: OUTPUT,
-        out: "",
-        saved: None,
+        comes: Comes {
+            status: 6,
+            err: OUTPUT,
+            out: "",
+            saved: None,
+        },
     },
     Row {
         words: REPLAY,
         fails: Fails::Out,
         call: 1,
-        status: 0,
-        err: "",
-        out: SUM_STEPS,
-        saved: None,
+        comes: Comes {
+            status: 0,
+            err: "",
+            out: SUM_STEPS,
+            saved: None,
+        },
     },
     Row {
         words: REPLAY,
         fails: Fails::Err,
         call: 0,
-        status: 0,
-        err: "",
-        out: SUM_STEPS,
-        saved: None,
+        comes: Comes {
+            status: 0,
+            err: "",
+            out: SUM_STEPS,
+            saved: None,
+        },
     },
     Row {
         words: RESUME,
         fails: Fails::Folder,
         call: 0,
-        status: 6,
-        err: FOLDER,
-        out: "",
-        saved: None,
+        comes: Comes {
+            status: 6,
+            err: FOLDER,
+            out: "",
+            saved: None,
+        },
     },
     Row {
         words: RESUME,
         fails: Fails::Folder,
         call: 1,
-        status: 6,
-        err: FOLDER,
-        out: "",
-        saved: None,
+        comes: Comes {
+            status: 6,
+            err: FOLDER,
+            out: "",
+            saved: None,
+        },
     },
     Row {
         words: RESUME,
         fails: Fails::Folder,
         call: 2,
-        status: 6,
-        err: FOLDER,
-        out: "",
-        saved: None,
+        comes: Comes {
+            status: 6,
+            err: FOLDER,
+            out: "",
+            saved: None,
+        },
     },
     Row {
         words: RESUME,
         fails: Fails::Folder,
         call: 3,
-        status: 0,
-        err: "",
-        out: THREE_STEPS,
-        saved: Some(SAVED),
+        comes: Comes {
+            status: 0,
+            err: "",
+            out: THREE_STEPS,
+            saved: Some(SAVED),
+        },
     },
     Row {
         words: RESUME,
         fails: Fails::Out,
         call: 0,
-        status: 6,
-        err: OUTPUT,
-        out: "",
-        saved: Some(SAVED),
+        comes: Comes {
+            status: 6,
+            err: OUTPUT,
+            out: "",
+            saved: Some(SAVED),
+        },
     },
     Row {
         words: &["run", "none.toml"],
         fails: Fails::Err,
         call: 0,
-        status: 3,
-        err: "",
-        out: "",
-        saved: None,
+        comes: Comes {
+            status: 3,
+            err: "",
+            out: "",
+            saved: None,
+        },
     },
     Row {
         words: &["run", "none.toml"],
         fails: Fails::Err,
         call: 1,
-        status: 3,
-        err: "mosaikrun: none.toml: no such file\n",
-        out: "",
-        saved: None,
+        comes: Comes {
+            status: 3,
+            err: "mosaikrun: none.toml: no such file\n",
+            out: "",
+            saved: None,
+        },
     },
 ];
 
@@ -230,14 +262,6 @@ fn sink_of(alloc: Global, row: &Row, fails: Fails) -> Result<MemSink, Mem> {
     Ok(MemSink::new(alloc, calls(alloc, row, fails)?))
 }
 
-// Whether that came of the call which the row says.
-fn is_told(row: &Row, status: u8, folder: &MemFolder, out: &MemSink, err: &MemSink) -> bool {
-    status == row.status
-        && err.bytes() == row.err.as_bytes()
-        && out.bytes() == row.out.as_bytes()
-        && is_saved(folder, row.saved)
-}
-
 // The status of the call, over a fleet on which the counter replies.
 fn status_of<R: Wait>(
     rt: &R,
@@ -257,7 +281,7 @@ fn is_right<R: Wait>(rt: &R, alloc: Global, kinds: &Registry, row: &Row) -> Resu
     let mut out = sink_of(alloc, row, Fails::Out)?;
     let mut err = sink_of(alloc, row, Fails::Err)?;
     let status = status_of(rt, alloc, row, &mut folder, kinds, &mut out, &mut err)?;
-    Ok(is_told(row, status, &folder, &out, &err))
+    Ok(row.comes.is_told(status, &folder, &out, &err))
 }
 
 /// The first row that isn't as it says.

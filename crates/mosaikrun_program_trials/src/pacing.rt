@@ -1,6 +1,6 @@
 //! Calls of the program that run a scenario by a clock in memory.
 
-use crate::calls::{is_saved, status_by_clock};
+use crate::calls::{Comes, status_by_clock};
 use crate::files::{LATE, SAVED, THREE_STEPS, WITHIN};
 use mk_base::{List, Mem};
 use mk_fakes::{MemFolder, MemSink};
@@ -8,49 +8,53 @@ use mk_local::Registry;
 use std::alloc::Global;
 use std::sync::Wait;
 
-// Words, by how many milliseconds the clock goes on at each look, and what comes of it: the status, what the outputs
-// have, and what is saved as `k`, if something is.
+// Words, by how many milliseconds the clock goes on at each look, and what comes of it.
 struct Row {
     words: &'static [&'static str],
     tick: u64,
-    status: u8,
-    err: &'static str,
-    out: &'static str,
-    saved: Option<&'static str>,
+    comes: Comes,
 }
 
 const ROWS: &[Row] = &[
     Row {
         words: &["paced", "s", "1000", "--strict", "0", "--record", "k"],
         tick: 0,
-        status: 0,
-        err: "",
-        out: THREE_STEPS,
-        saved: Some(SAVED),
+        comes: Comes {
+            status: 0,
+            err: "",
+            out: THREE_STEPS,
+            saved: Some(SAVED),
+        },
     },
     Row {
         words: &["paced", "--record=k", "s", "1000", "--strict=0"],
         tick: 7,
-        status: 5,
-        err: "mosaikrun: run 12: A-0 step at 0 late by 7 ms, allowed 0\n",
-        out: "",
-        saved: Some(LATE),
+        comes: Comes {
+            status: 5,
+            err: "mosaikrun: run 12: A-0 step at 0 late by 7 ms, allowed 0\n",
+            out: "",
+            saved: Some(LATE),
+        },
     },
     Row {
         words: &["paced", "s", "1000", "--strict", "7"],
         tick: 7,
-        status: 0,
-        err: "",
-        out: THREE_STEPS,
-        saved: None,
+        comes: Comes {
+            status: 0,
+            err: "",
+            out: THREE_STEPS,
+            saved: None,
+        },
     },
     Row {
         words: &["paced", "s", "1000"],
         tick: 9000,
-        status: 0,
-        err: "",
-        out: THREE_STEPS,
-        saved: None,
+        comes: Comes {
+            status: 0,
+            err: "",
+            out: THREE_STEPS,
+            saved: None,
+        },
     },
 ];
 
@@ -58,14 +62,6 @@ fn folder_of(alloc: Global) -> Result<MemFolder, Mem> {
     let mut folder = MemFolder::new(alloc, List::new(alloc));
     folder.add("s", WITHIN.as_bytes())?;
     Ok(folder)
-}
-
-// Whether that came of the call which the row says.
-fn is_told(row: &Row, status: u8, folder: &MemFolder, out: &MemSink, err: &MemSink) -> bool {
-    status == row.status
-        && err.bytes() == row.err.as_bytes()
-        && out.bytes() == row.out.as_bytes()
-        && is_saved(folder, row.saved)
 }
 
 fn is_right<R: Wait>(rt: &R, alloc: Global, kinds: &Registry, row: &Row) -> Result<bool, Mem> {
@@ -82,7 +78,7 @@ fn is_right<R: Wait>(rt: &R, alloc: Global, kinds: &Registry, row: &Row) -> Resu
         &mut out,
         &mut err,
     )?;
-    Ok(is_told(row, status, &folder, &out, &err))
+    Ok(row.comes.is_told(status, &folder, &out, &err))
 }
 
 /// The first row that isn't as it says.

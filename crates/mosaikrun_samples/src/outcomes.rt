@@ -58,6 +58,21 @@ fn record_of(alloc: Global, record: &Option<Vec<u8>>) -> Result<Vec<u8>, Mem> {
     }
 }
 
+/// Whether a call comes to this text, or else ends with this line.
+pub fn is_wanted(
+    alloc: Global,
+    outcome: &Result<Vec<u8>, Ending>,
+    wanted: &str,
+) -> Result<bool, Mem> {
+    match outcome {
+        Ok(text) => Ok(text.as_slice() == wanted.as_bytes()),
+        Err(ending) => {
+            let line = ending.line(alloc)?;
+            Ok(line.as_slice() == wanted.as_bytes())
+        }
+    }
+}
+
 /// Whether these are the text and the record.
 pub fn is_both(outcome: &Outcome, text: &str, record_text: &str) -> bool {
     outcome.text.as_slice() == text.as_bytes()

@@ -21,7 +21,7 @@ use Rattle.mosaikrun_words.specs.Requests.{IsNumberGiven, IsRequest, IsSpelled, 
 use Rattle.mosaikrun_words.specs.Words.{Given, Text, is_value}
 use Rattle.mosaikrun_words.proofs.Groups.{AreGroups, sorted_is, sorted_so, spelled_so}
 use Rattle.mosaikrun_words.proofs.Spelled.{AreValues, IsFound, found_is, found_of, number_from, number_is, only_is, only_of, two_is, two_of, word_with_from, word_with_is}
-use Rattle.mk_base.specs.Limits.{most_milliseconds}
+use Rattle.mk_base.specs.Limits.{largest_demo, most_milliseconds}
 use Rattle.mk_base.proofs.Items.{each_append}
 use Rattle.mk_base.proofs.Bools.{both_hold}
 
@@ -176,16 +176,16 @@ check_right rest R e = by (only_word rest) refl e
 demo_right : (rest : List Text) (R : Request) → demo_of rest ≡ Some R → IsRest command.Demo rest R
 demo_right rest R e = by (only_word rest) refl e
   where
-    numbered : (t : Text) → only_word rest ≡ Some t → (n : Option ℕ) → number_in 1 100 t ≡ n → option_map Demo n ≡ Some R → IsRest command.Demo rest R
+    numbered : (t : Text) → only_word rest ≡ Some t → (n : Option ℕ) → number_in 1 largest_demo t ≡ n → option_map Demo n ≡ Some R → IsRest command.Demo rest R
     numbered t is None number h = cc
     numbered t is (Some k) number h =
         let p = only_is rest t is in
         let same : Demo k ≡ R = cc in
-        subst (IsRest command.Demo rest) same (refl, is_demo t k (spelled_alone (codes "demo") rest t p.0 p.1) (number_is 1 100 t k number))
+        subst (IsRest command.Demo rest) same (refl, is_demo t k (spelled_alone (codes "demo") rest t p.0 p.1) (number_is 1 largest_demo t k number))
 
-    by : (o : Option Text) → only_word rest ≡ o → option_map Demo (option_and_then (number_in 1 100) o) ≡ Some R → IsRest command.Demo rest R
+    by : (o : Option Text) → only_word rest ≡ o → option_map Demo (option_and_then (number_in 1 largest_demo) o) ≡ Some R → IsRest command.Demo rest R
     by None is h = cc
-    by (Some t) is h = numbered t is (number_in 1 100 t) refl h
+    by (Some t) is h = numbered t is (number_in 1 largest_demo t) refl h
 
 pair_right : (c : PairCommand) (rest : List Text) (R : Request) → pair_of c rest ≡ Some R → IsRest (command.Pair c) rest R
 pair_right c rest R e = by (two_words rest) refl e
@@ -267,7 +267,7 @@ found_by words _ (is_replay r t n spelled given) = record { rest = spelled.rest;
     ordered _ _ missing = refl
     ordered _ _ (there text k is) = ap (option_map (λ m. Files (Replay r (Some m)))) (number_from 0 4294967295 text k is)
 found_by words _ (is_check s spelled) = record { rest = spelled.rest; is = spelled.is; found = ap (option_map (λ s. Files (Check s))) (only_rest (codes "check") s words spelled) }
-found_by words _ (is_demo t n spelled number) = record { rest = spelled.rest; is = spelled.is; found = ap (λ (o : Option Text). option_map Demo (option_and_then (number_in 1 100) o)) (only_rest (codes "demo") t words spelled) ∙ ap (option_map Demo) (number_from 1 100 t n number) }
+found_by words _ (is_demo t n spelled number) = record { rest = spelled.rest; is = spelled.is; found = ap (λ (o : Option Text). option_map Demo (option_and_then (number_in 1 largest_demo) o)) (only_rest (codes "demo") t words spelled) ∙ ap (option_map Demo) (number_from 1 largest_demo t n number) }
 found_by words _ (is_pair c a b spelled) = record { rest = spelled.rest; is = spelled.is; found = ap (option_map (λ (t : Two). Files (Pair c t.first t.second))) (two_rest (pair_word c) a b words spelled) }
 
 -- a command's word finds the command

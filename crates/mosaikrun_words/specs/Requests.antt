@@ -8,7 +8,7 @@ use Rattle.mosaikrun_words.specs.declared.request.Request.{Request}
 use Rattle.mosaikrun_words.specs.declared.request.Request.TheVariants.{Files, Run, Resume, Paced, Demo}
 use Rattle.mosaikrun_words.specs.Numbers.{IsNumber}
 use Rattle.mosaikrun_words.specs.Words.{Text, Given, is_value, spellings}
-use Rattle.mk_base.specs.Limits.{most_milliseconds}
+use Rattle.mk_base.specs.Limits.{largest_demo, most_milliseconds}
 
 -- the words are the command's name and a spelling of these positional words and options, each of
 -- which may be a value
@@ -55,7 +55,7 @@ pub data IsRequest (words : List Text) : Request → Type 0 where
       → IsNumberGiven 0 4294967295 t n → IsRequest words (Files (Replay r n))
   is_check : (s : Text) → IsSpelled (codes "check") (s ∷ []) [] words
       → IsRequest words (Files (Check s))
-  is_demo : (t : Text) (n : ℕ) → IsSpelled (codes "demo") (t ∷ []) [] words → IsNumber 1 100 n t
+  is_demo : (t : Text) (n : ℕ) → IsSpelled (codes "demo") (t ∷ []) [] words → IsNumber 1 largest_demo n t
       → IsRequest words (Demo n)
   is_pair : (c : PairCommand) (a b : Text) → IsSpelled (pair_word c) (a ∷ b ∷ []) [] words
       → IsRequest words (Files (Pair c a b))

@@ -10,7 +10,7 @@ use crate::number::number_in;
 use crate::reading::{Found, Two};
 use crate::request::{Command, FileCommand, OptionName, PairCommand, Request};
 use crate::sorted::{Sorted, few_sorted};
-use mk_base::{Mem, Text};
+use mk_base::{LARGEST_DEMO, Mem, Text};
 use std::alloc::Global;
 
 // The commands, each with its word.
@@ -267,7 +267,7 @@ fn demo_of(alloc: Global, rest: &[String]) -> Result<Option<Request>, Mem>
     ensures { IfOk result (λ found. found ≡ demo_of (map string_bytes rest.now)) }
 {
     match only_word(alloc, rest)? {
-        Some(text) => match number_in(1, 100, text.as_str()) {
+        Some(text) => match number_in(1, LARGEST_DEMO, text.as_str()) {
             Some(size) => Ok(Some(Request::Demo { size })),
             None => Ok(None),
         },

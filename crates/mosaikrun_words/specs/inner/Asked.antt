@@ -15,7 +15,7 @@ use Rattle.mosaikrun_words.specs.Requests.{pair_word}
 use Rattle.mosaikrun_words.specs.inner.Arranged.{alone, number_in, one_word, only_word, two_words, word_with}
 use Rattle.mosaikrun_words.specs.inner.Sorted.{Shape, sorted_of}
 use Rattle.mosaikrun_words.specs.Words.{Text}
-use Rattle.mk_base.specs.Limits.{most_milliseconds}
+use Rattle.mk_base.specs.Limits.{largest_demo, most_milliseconds}
 
 abbrev pub run_of : List Text → Option Request
 run_of rest = option_map (λ (f : Found). Run f.word f.value) (one_word (codes "record") rest)
@@ -83,7 +83,7 @@ abbrev pub check_of : List Text → Option Request
 check_of rest = option_map (λ s. Files (Check s)) (only_word rest)
 
 abbrev pub demo_of : List Text → Option Request
-demo_of rest = option_map Demo (option_and_then (number_in 1 100) (only_word rest))
+demo_of rest = option_map Demo (option_and_then (number_in 1 largest_demo) (only_word rest))
 
 abbrev pub pair_of : PairCommand → List Text → Option Request
 pair_of c rest = option_map (λ (t : Two). Files (Pair c t.first t.second)) (two_words rest)
