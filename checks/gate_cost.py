@@ -1,5 +1,6 @@
 #!/usr/bin/env python3
-"""What the gate costs: processor seconds of each crate, told apart into its proof, its tests and its edits.
+"""What the gate costs: processor seconds of each crate, told apart into its proof, its tests, its edits and, of a
+program, what compiles it.
 
     gate_cost.py run [WORD..]      runs the words, `rt ci` if there are none, and prints the table when they have ended;
                                    it is called at the top of the repository
@@ -8,7 +9,8 @@
                                    nothing: FOLDER is its `out/incremental`, whose files are written one by one
 
 `rt ci` leaves no times behind. So the table is made by looking, twice a second, at how much processor time each process
-of the prover below it has taken: what is proved is one process a crate, its tests another, and each edit one more.
+of the prover below it has taken: what is proved is one process a crate, its tests another, which compiles them too,
+each edit one more, and of a program so is each of the two that compile what was proved.
 """
 
 from __future__ import annotations
@@ -21,7 +23,7 @@ import sys
 import time
 
 TICKS = os.sysconf("SC_CLK_TCK")
-PARTS = ("proof", "tests", "edits", "rest")
+PARTS = ("proof", "tests", "edits", "compile", "rest")
 
 
 def processes() -> dict[int, tuple[int, float]]:
@@ -62,6 +64,8 @@ def named(process: int) -> tuple[str, str]:
     crate = words[words.index("--crate-name") + 1]
     if "--test" in words:
         return crate, "tests"
+    if "--crate-checked" in words:
+        return crate, "compile"
     return crate, "edits" if "--incremental" in words else "proof"
 
 

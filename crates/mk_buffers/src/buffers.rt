@@ -113,6 +113,7 @@ impl Buffers {
     {
         match self.feeds.get(sim.0 as usize) {
             Some(part) => part.first,
+            // there is no such simulator, and so none of its outlets is looked for
             None => 0,
         }
     }

@@ -31,6 +31,7 @@ impl Buffers {
     {
         match self.outlet(entity, attr) {
             Some(outlet) => self.deliver_to(outlet, at, value),
+            // no connection takes the attribute, so nobody can be given the value
             None => Ok(()),
         }
     }
@@ -51,6 +52,7 @@ impl Buffers {
         if outlet < self.outlets.len() {
             self.take_in(outlet, at, value)
         } else {
+            // there is no such outlet, so nobody can be given the value
             Ok(())
         }
     }

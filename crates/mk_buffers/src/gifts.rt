@@ -31,6 +31,7 @@ impl Buffers {
     {
         match self.target_of(set.entity)? {
             Some(target) => self.give_to(target, at, set),
+            // the plan has no such entity, so nobody can be given the value
             None => Ok(()),
         }
     }
