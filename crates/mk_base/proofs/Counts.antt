@@ -1,5 +1,5 @@
 -- Numbers that are compared, by tests and without.
-use Rattle.std.proofs.Common.{Bool, arith, cond, false, if◌then◌else◌, inl, inr, int_le, int_lt, max, nat_eq, nat_le, nat_lt, pos, refl, suc, sym, true, true≢false, zero, ℕ, ℤ, ◌&&◌, ◌+◌, ◌<◌, ◌==◌, ◌^◌, ◌∙◌, ◌≡◌, ◌≤ℤ◌, ◌≤◌, ◌⊎◌}
+use Rattle.std.proofs.Common.{Bool, arith, cond, false, inl, inr, int_le, int_lt, max, nat_eq, nat_le, nat_lt, pos, refl, suc, sym, true, true≢false, zero, ℕ, ℤ, ◌&&◌, ◌+◌, ◌<◌, ◌==◌, ◌^◌, ◌∙◌, ◌≡◌, ◌≤ℤ◌, ◌≤◌, ◌⊎◌}
 use Rattle.mk_base.proofs.TierOrder.{is_up_to}
 use Rattle.mk_base.specs.Tiers.{IsUpTo}
 use Rattle.mk_base.specs.Trees.{in_range}

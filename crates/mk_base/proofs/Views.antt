@@ -1,5 +1,5 @@
 -- What a tree of one form is seen as.
-use Rattle.std.proofs.Common.{List, Some, refl, ℕ, ℤ, ◌≡◌, [], flat_map, ◌++◌, ◌+◌, ◌∷◌}
+use Rattle.std.proofs.Common.{List, Some, refl, ℕ, ℤ, ◌≡◌, [], flat_map, ◌++◌, ◌∷◌}
 use Rattle.mk_base.specs.Trees.{items_in, text_in, whole_in}
 use Rattle.mk_base.specs.declared.json.Json.{Json}
 use Rattle.mk_base.specs.declared.json.Json as tree

@@ -10,7 +10,6 @@ use Rattle.mk_plan.specs.Plans.{owner, eid_of}
 use Rattle.mk_plan.specs.Asks.{gives_attr}
 use Rattle.mk_plan.specs.Deliveries.{Timed, Supply}
 use Rattle.mk_plan.specs.Inputs.{latest, value_at}
-use Rattle.std.proofs.lemmas.Bool.Decides.{nat_tests}
 use Rattle.std.proofs.lemmas.Slice.Eq.{bytes_eq-Decides}
 use Rattle.mk_buffers.specs.declared.outlets.Outlet.{Outlet}
 use Rattle.mk_buffers.specs.declared.buffers.Buffers.{Buffers}

@@ -1,6 +1,6 @@
 -- What stands at a place of a list, and how places compare.
 use Rattle.std.specs.Prelude.{OnOk, OnErr}
-use Rattle.std.proofs.Common.{◌≡◌, ◌≢◌, ◌⊎◌, inl, inr, ℕ, zero, suc, ◌+◌, ◌<◌, List, [], ◌∷◌, length, Some, Result, Ok, Err, slice_get, get_or, refl, arith}
+use Rattle.std.proofs.Common.{◌≡◌, ◌≢◌, ◌⊎◌, inl, inr, ℕ, ◌+◌, ◌<◌, Result, Ok, Err, arith}
 pub use Rattle.mk_plan_judge.proofs.AtPlaces.{get_any, get_some}
 
 pub apart_or_same : (i j : ℕ) → (i ≡ j) ⊎ (i ≢ j)

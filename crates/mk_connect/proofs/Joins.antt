@@ -1,5 +1,5 @@
 -- Numbers that are put to one another, pair by pair, are those of related entities.
-use Rattle.std.proofs.Common.{◌≡◌, ℕ, zero, suc, ◌+◌, ◌<◌, nat_eq, nat_lt, Bool, true, false, not, ◌&&◌, ◌||◌, List, [], ◌∷◌, ◌++◌, map, filter, fold, length, take, refl, sym, ap, ◌∙◌, arith, if◌then◌else◌, slice_set, get_or, append_assoc, ◌==◌, inl, inr}
+use Rattle.std.proofs.Common.{◌≡◌, ℕ, zero, suc, ◌+◌, ◌<◌, nat_eq, nat_lt, Bool, true, false, not, ◌&&◌, ◌||◌, List, [], ◌∷◌, ◌++◌, map, filter, fold, length, take, refl, sym, ap, ◌∙◌, arith, if◌then◌else◌, slice_set, get_or, append_assoc, ◌==◌}
 use Rattle.std.specs.List.{list_any, range_with_len}
 use Rattle.std.specs.Ordering.{nat_cmp}
 use Rattle.std.specs.BTreeSet.{insert_key}
@@ -9,7 +9,6 @@ use Rattle.std.proofs.lemmas.List.{length-map, take_more}
 use Rattle.std.proofs.lemmas.List.Sums.{fold-append}
 use Rattle.std.specs.Prelude.{flat_map}
 use Rattle.mk_base.proofs.Lists.{append_nil, filter_none, in_range, map_append, map_same}
-use Rattle.mk_base.specs.Lists.{IsIn}
 use Rattle.mk_entities.proofs.Numbers.{put_in}
 use Rattle.mk_entities.specs.declared.entities.EntityInfo.{EntityInfo}
 use Rattle.mk_scenario.specs.declared.parts.Block.{Block}

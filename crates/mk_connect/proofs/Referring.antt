@@ -3,7 +3,7 @@ use Rattle.std.proofs.Common.{◌≡◌, ℕ, ◌<◌, List, length, Some, sym, 
 use Rattle.std.specs.Prelude.{Option}
 use Rattle.std.specs.List.{range_with_len}
 use Rattle.std.proofs.lemmas.List.{length-map}
-use Rattle.mk_base.specs.Lists.{Each, IsIn}
+use Rattle.mk_base.specs.Lists.{IsIn}
 use Rattle.mk_base.proofs.Lists.{at_in, each_in, get_is, in_each, in_filter, in_map, in_range}
 use Rattle.mk_plan.specs.declared.AsyncPair.{AsyncPair}
 use Rattle.mk_plan.specs.declared.Conn.{Conn}

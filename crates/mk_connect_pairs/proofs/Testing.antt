@@ -1,5 +1,5 @@
 -- What follows two tests.
-use Rattle.std.proofs.Common.{◌≡◌, Option, Some, None, Result, Ok, Err, inl, inr, refl, ap}
+use Rattle.std.proofs.Common.{◌≡◌, Option, Some, None, Result, Ok, inl, inr, ap}
 use Rattle.mk_base.specs.Verdicts.{unless}
 use Rattle.mk_connect_pairs.specs.declared.fault.ConnectFault.{ConnectFault}
 use Rattle.mk_connect_pairs.specs.Faults.{IsFaultOf}

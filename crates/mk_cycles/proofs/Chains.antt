@@ -3,7 +3,7 @@ use Rattle.std.proofs.Common.{◌≡◌, ℕ, zero, suc, ◌+◌, ◌<◌, inl, 
 use Rattle.std.specs.List.{slice_get}
 use Rattle.std.proofs.lemmas.List.{reverse-append, take-append-drop, append-nil}
 use Rattle.mk_base.proofs.Lists.{some_same, none_some, in_front, in_back, in_either}
-use Rattle.mk_base.specs.Lists.{Each, IsIn}
+use Rattle.mk_base.specs.Lists.{IsIn}
 use Rattle.mk_cycles.specs.Edges.{IsChain}
 
 -- the last item first

@@ -1,6 +1,6 @@
 -- What is added has a proper eid, and its related numbers rise and are of entities.
 use Rattle.std.proofs.Common.{◌≡◌, ℕ, zero, suc, ◌+◌, ◌<◌, ◌≤◌, Bool, true, false, List, [], ◌∷◌, ◌++◌, map, filter, flat_map, length, Option, Some, None, refl, sym, ap, ◌∙◌, subst, arith, codes, if◌then◌else◌, unwrap_or, is_some, length-append, nat_lt, not, slice_get, take}
-use Rattle.std.specs.Prelude.{IsTrue, option_map, option_and_then}
+use Rattle.std.specs.Prelude.{IsTrue, option_and_then}
 use Rattle.std.specs.List.{range_with_len}
 use Rattle.std.specs.List.Sorted.{IsStrictlySortedBy}
 use Rattle.std.specs.Ordering.{nat_cmp}
@@ -10,17 +10,16 @@ use Rattle.std.proofs.lemmas.List.{length-map}
 use Rattle.mk_base.specs.declared.SimNo.{SimNo}
 use Rattle.mk_base.specs.declared.json.Json.{Json}
 use Rattle.mk_base.specs.Lists.{Each}
-use Rattle.mk_base.specs.Trees.{items_in, member, nesting, text_in}
+use Rattle.mk_base.specs.Trees.{member, nesting, text_in}
 use Rattle.mk_base.proofs.Lists.{none_some, some_same}
 use Rattle.mk_base.specs.Names.{is_eid}
 use Rattle.mk_base.specs.Verdicts.{fault_unless}
 use Rattle.mk_meta.specs.declared.meta.Meta.{Meta}
 use Rattle.mk_entities.specs.declared.described.Described.{Described}
 use Rattle.mk_entities.specs.declared.entities.EntityInfo.{EntityInfo}
-use Rattle.mk_entities.specs.declared.fault.CreateFault.{CreateFault}
 use Rattle.mk_entities.specs.declared.fault.CreateFault.TheVariants.{NoEid, TwiceEid, OfType, TooMany}
 use Rattle.mk_entities.specs.Creation.{added, entity_fault, after_text, has_number, has_type}
-use Rattle.mk_entities.specs.Descriptions.{below, children_in, described, eid_in, family, if_eid, list_under}
+use Rattle.mk_entities.specs.Descriptions.{below, children_in, described, family, if_eid, list_under}
 use Rattle.mk_entities.specs.inner.Making.{fault_at, first_fault, named_from, number_in}
 use Rattle.mk_entities.specs.Sound.{AreSound, IsSound}
 use Rattle.mk_entities.proofs.Distinct.{none_at}

@@ -4,7 +4,7 @@ use Rattle.std.specs.List.{find, list_any, range_with_len}
 use Rattle.mk_base.specs.declared.SimNo.{SimNo}
 use Rattle.mk_base.specs.declared.json.Json.{Json}
 use Rattle.mk_base.specs.Lists.{same_text}
-use Rattle.mk_base.specs.Trees.{items_in, items_of}
+use Rattle.mk_base.specs.Trees.{items_of}
 use Rattle.mk_base.specs.Verdicts.{unless, fault_unless}
 use Rattle.mk_meta.specs.declared.meta.ModelMeta.{ModelMeta}
 use Rattle.mk_meta.specs.declared.meta.Meta.{Meta}

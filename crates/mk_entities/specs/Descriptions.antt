@@ -2,7 +2,7 @@
 use Rattle.std.specs.Prelude.{ℕ, suc, zero, Bool, true, false, codes, List, [], ◌∷◌, map, filter_map, flat_map, Option, Some, None, is_some, option_and_then, unwrap_or, if◌then◌else◌}
 use Rattle.mk_base.specs.declared.json.Json.{Json, Json-F, out-Json}
 use Rattle.mk_base.specs.Lists.{all_there}
-use Rattle.mk_base.specs.Trees.{text_in, items_in, member, nesting, items_of}
+use Rattle.mk_base.specs.Trees.{text_in, member, nesting, items_of}
 use Rattle.mk_base.specs.Names.{is_eid}
 use Rattle.mk_meta.specs.Metadata.{unless_missing}
 use Rattle.mk_entities.specs.declared.described.Described.{Described}

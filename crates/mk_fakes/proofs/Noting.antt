@@ -1,5 +1,5 @@
 -- A note that was made beforehand is replaced by the right one.
-use Rattle.std.proofs.Common.{◌≡◌, ℕ, ◌+◌, ◌-◌, List, [], ◌∷◌, ◌++◌, length, slice_set, Some, refl, ap, ◌∙◌, arith, length-append}
+use Rattle.std.proofs.Common.{◌≡◌, ℕ, ◌-◌, List, [], ◌∷◌, ◌++◌, length, slice_set, Some, refl, ap, ◌∙◌, arith, length-append}
 use Rattle.std.proofs.lemmas.List.{map-append}
 use Rattle.mk_outside.specs.Asked.{Asks, to_listen}
 use Rattle.mk_fakes.specs.declared.asking.Ask.{Ask}

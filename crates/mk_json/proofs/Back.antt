@@ -1,5 +1,5 @@
 -- The text of a tree is read as that tree.
-use Rattle.std.proofs.Common.{◌≡◌, ℕ, suc, pred, max, ◌<◌, ◌≤◌, ◌^◌, ℤ, pos, negsuc, Bool, true, false, List, [], ◌∷◌, ◌++◌, map, codes, Option, Some, option_map, option_and_then, Ordering, Less, Equal, Greater, decimal, refl, sym, ap, ap₂, ◌∙◌, subst, arith, append-nil, true≢false}
+use Rattle.std.proofs.Common.{◌≡◌, ℕ, suc, pred, max, ◌<◌, ◌≤◌, ◌^◌, ℤ, pos, negsuc, Bool, true, false, List, [], ◌∷◌, ◌++◌, map, codes, Option, Some, option_map, option_and_then, Less, Greater, decimal, refl, sym, ap, ap₂, ◌∙◌, subst, arith, append-nil}
 use Rattle.std.proofs.lemmas.Bool.{and_parts}
 use Rattle.std.proofs.lemmas.Int.{ints}
 use Rattle.std.proofs.lemmas.Cmp.{nat_list_cmp_total}

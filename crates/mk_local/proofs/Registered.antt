@@ -1,5 +1,5 @@
 -- Kinds with names of their own.
-use Rattle.std.proofs.Common.{◌≡◌, ℕ, Bool, true, false, not, ◌&&◌, List, [], ◌∷◌, ◌++◌, drop, get_or, length, refl, sym, ap, ◌∙◌, subst, arith, suc}
+use Rattle.std.proofs.Common.{◌≡◌, ℕ, true, false, List, [], ◌∷◌, ◌++◌, drop, get_or, length, sym, ap, ◌∙◌, subst, arith, suc}
 use Rattle.std.specs.Prelude.{◌+◌, ◌<◌}
 use Rattle.std.proofs.Math.Seq.{drop-cons}
 use Rattle.mk_local.specs.declared.turn.Turn.{Turn}

@@ -5,7 +5,6 @@ use Rattle.std.proofs.lemmas.Int.{ints}
 use Rattle.std.specs.List.{list_all}
 use Rattle.mk_base.specs.declared.json.Json as tree
 use Rattle.mk_base.specs.declared.json.Json.{Json}
-use Rattle.mk_base.specs.declared.json.Json.TheVariants as v
 use Rattle.mk_base.specs.Texts.{text_of}
 use Rattle.mk_base.specs.Trees as trees
 use Rattle.mk_base.specs.Trees.{whole_in, text_in, items_in, is_object, nesting, in_range}

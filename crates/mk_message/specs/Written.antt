@@ -1,6 +1,5 @@
 -- The payloads that the program writes on a link.
-use Rattle.std.specs.Prelude.{ℕ, ◌^◌, pos, ◌==◌, ◌&&◌, nat_lt, Bool, true, List, [], ◌∷◌, map, Option, Some, None, codes, if◌then◌else◌}
-use Rattle.std.specs.List.{list_all}
+use Rattle.std.specs.Prelude.{ℕ, ◌^◌, pos, ◌==◌, ◌&&◌, nat_lt, Bool, true, List, [], ◌∷◌, map, codes, if◌then◌else◌}
 use Rattle.std.specs.Fmt.{decimal, signed_decimal}
 use Rattle.mk_base.specs.declared.json.Json as tree
 use Rattle.mk_base.specs.declared.json.Json.{Json}

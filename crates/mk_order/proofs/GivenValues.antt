@@ -1,6 +1,6 @@
 -- Set values that are given one at a time are those of each source entity, in order, so the inputs
 -- are the same.
-use Rattle.std.proofs.Common.{◌≡◌, ℕ, ◌<◌, Bool, true, false, ◌&&◌, not, List, [], ◌∷◌, ◌++◌, length, map, filter, flat_map, Option, Some, None, option_map, unwrap_or, refl, sym, ap, ◌∙◌, inl, inr, true≢false, ◌==◌, nat_eq, arith, if◌then◌else◌, find, ◌||◌}
+use Rattle.std.proofs.Common.{◌≡◌, ℕ, ◌<◌, Bool, true, false, ◌&&◌, not, List, [], ◌∷◌, ◌++◌, length, map, filter, flat_map, Option, Some, None, option_map, unwrap_or, refl, sym, ap, ◌∙◌, inl, inr, true≢false, ◌==◌, arith, if◌then◌else◌, find, ◌||◌}
 use Rattle.std.proofs.lemmas.Bool.{eqb-true, eq-eqb}
 use Rattle.std.specs.List.{list_all, list_any, range_with_len}
 use Rattle.std.specs.Ordering.{ordering_then, is_eq}
@@ -26,7 +26,7 @@ use Rattle.mk_plan.specs.Inputs.{is_since, gifts_to, input_order, gift_input, as
 use Rattle.mk_plan.specs.Sequential.{grown}
 use Rattle.mk_order.proofs.Entries.{gifts_after, gifts_apart}
 use Rattle.mk_order.proofs.Assembled.{else_by, last_with, assemble_by_last}
-use Rattle.mk_base.proofs.Bools.{both_equal, and_holds, both_hold}
+use Rattle.mk_base.proofs.Bools.{both_equal, both_hold}
 use Rattle.mk_base.proofs.Guessing.{text_is}
 use Rattle.mk_base.proofs.Items.{same_text_self}
 

@@ -1,7 +1,6 @@
 -- The view of an orderly journal is one that the theory reaches.
-use Rattle.std.proofs.Common.{◌≡◌, ℕ, Bool, true, false, List, [], ◌∷◌, ◌++◌, fold, Option, Some, None, is_some, option_map, refl, sym, ap, ◌∙◌, subst, ◌⊎◌, inl, inr, true≢false, ◌==◌, if◌then◌else◌, pos, ℤ}
+use Rattle.std.proofs.Common.{◌≡◌, ℕ, Bool, false, List, [], ◌∷◌, ◌++◌, fold, Option, Some, None, is_some, option_map, refl, sym, ap, ◌∙◌, subst, ◌⊎◌, inl, inr, true≢false, ◌==◌, if◌then◌else◌, pos, ℤ}
 use Rattle.mk_plan.specs.declared.Input.{Input}
-use Rattle.std.proofs.lemmas.Bool.{eqb-true, eq-eqb}
 use Rattle.mk_order_any.specs.Parts.{Parts, Turn, Moves, Reached}
 use Rattle.mk_order_any.specs.Parts as theory
 use Rattle.mk_base.specs.declared.tier.Tier.{Tier}

@@ -1,5 +1,5 @@
 -- What a simulator is sent depends on the outputs that connections take, and on the set values, alone.
-use Rattle.std.proofs.Common.{◌≡◌, ℕ, true, ◌&&◌, List, [], ◌∷◌, ◌++◌, length, map, filter, flat_map, Option, option_map, refl, ap, ◌==◌, arith, nat_eq, int_lt, ◌||◌}
+use Rattle.std.proofs.Common.{◌≡◌, ℕ, true, ◌&&◌, List, [], ◌++◌, length, map, filter, flat_map, Option, option_map, refl, ap, ◌==◌, arith, int_lt, ◌||◌}
 use Rattle.std.proofs.lemmas.Bool.{eq-eqb}
 use Rattle.std.specs.List.{range_with_len}
 use Rattle.std.specs.Prelude.{option_to_list}

@@ -9,7 +9,6 @@ use Rattle.mk_base.specs.declared.tier.Tier.{Tier}
 use Rattle.mk_base.specs.Lists.{IsIn}
 use Rattle.mk_base.specs.Tiers.{before, IsUpTo, IsBefore}
 use Rattle.mk_base.proofs.Lists.{in_filter, filter_in, none_some}
-use Rattle.mk_base.proofs.TierOrder.{is_up_to}
 use Rattle.mk_plan.specs.declared.Plan.{Plan}
 use Rattle.mk_plan.specs.declared.Entry.{Entry}
 use Rattle.mk_plan.specs.declared.Input.{Input}

@@ -1,6 +1,5 @@
 -- What a journal's view says was sent and heard is what the journal's entries say.
-use Rattle.std.proofs.Common.{◌≡◌, ℕ, Bool, true, false, List, [], ◌∷◌, ◌++◌, map, fold, Option, Some, None, option_map, refl, sym, ap, ◌∙◌, subst, ◌⊎◌, inl, inr, true≢false, ◌==◌, if◌then◌else◌, pos, ℤ, append_assoc}
-use Rattle.std.proofs.lemmas.Bool.{eqb-true, eq-eqb}
+use Rattle.std.proofs.Common.{◌≡◌, ℕ, Bool, false, List, [], ◌∷◌, ◌++◌, map, fold, Option, Some, None, option_map, refl, sym, ap, ◌∙◌, subst, ◌⊎◌, inl, inr, true≢false, if◌then◌else◌, pos, ℤ, append_assoc}
 use Rattle.std.specs.List.{cons_option}
 use Rattle.mk_order_any.specs.Parts as theory
 use Rattle.mk_base.specs.declared.SimNo.{SimNo}

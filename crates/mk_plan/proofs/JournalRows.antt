@@ -1,6 +1,6 @@
 -- Worked examples of journals: when a simulator behind a connection is ready, what its max_advance
 -- is, what that promises, and a whole run that is eager and finished.
-use Rattle.std.proofs.Common.{◌≡◌, ℕ, zero, suc, ◌<◌, pos, ◌≤ℤ◌, ◌<ℤ◌, List, [], ◌∷◌, ◌++◌, fold, Option, Some, None, refl, sym, ap, ◌∙◌, subst, codes, true, false, true≢false, inl, inr, arith}
+use Rattle.std.proofs.Common.{◌≡◌, ℕ, zero, suc, pos, ◌≤ℤ◌, ◌<ℤ◌, List, [], ◌∷◌, ◌++◌, fold, Option, Some, None, refl, sym, ap, ◌∙◌, subst, codes, true, false, true≢false, inl, inr, arith}
 use Rattle.std.specs.Prelude.{⊤}
 use Rattle.std.proofs.lemmas.Int.{ints}
 use Rattle.mk_base.specs.declared.SimKind.TheVariants.{TimeBased, EventBased}

@@ -1,16 +1,14 @@
 -- What each connection takes is wanted of its source.
-use Rattle.std.proofs.Common.{◌≡◌, ℕ, [], filter, ◌==◌, eq-eqb, inr, refl}
+use Rattle.std.proofs.Common.{◌≡◌, ℕ, [], filter, ◌==◌, eq-eqb, inr}
 use Rattle.std.proofs.lemmas.Map.Lookups.{exact_bytes}
-use Rattle.std.specs.Ordering.{ordering_then}
 use Rattle.std.specs.List.Sorted.{IsStrictlySortedBy}
-use Rattle.std.specs.declared.cmp.Ordering.{Ordering}
-use Rattle.std.specs.declared.cmp.Ordering.TheVariants.{Less, Equal, Greater}
+use Rattle.std.specs.declared.cmp.Ordering.TheVariants.{Equal}
 use Rattle.mk_base.specs.Lists.{IsIn, text_order}
 use Rattle.mk_base.proofs.Lists.{filter_in}
 use Rattle.mk_plan.specs.declared.Plan.{Plan}
 use Rattle.mk_plan.specs.declared.Conn.{Conn}
 use Rattle.mk_plan.specs.declared.Want.{Want}
-use Rattle.mk_plan.specs.Plans.{owner, eid_of}
+use Rattle.mk_plan.specs.Plans.{owner}
 use Rattle.mk_plan.specs.Turns.{wanted, want_order, want_of}
 use Rattle.mk_plan_judge.proofs.Putting.{names_total}
 use Rattle.mk_plan_judge.proofs.Puts.{all_put_in, puts_sorted}

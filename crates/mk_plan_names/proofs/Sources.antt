@@ -1,5 +1,5 @@
 -- The attributes that connections take, by their entities.
-use Rattle.std.proofs.Common.{◌≡◌, ℕ, zero, suc, ◌+◌, ◌<◌, nat_eq, Bool, true, false, ◌&&◌, ◌||◌, List, [], ◌∷◌, ◌++◌, length, slice_get, slice_set, get_or, Option, Some, option_map, unwrap_or, refl, sym, ap, ◌∙◌, arith, cond, ◌==◌, if◌then◌else◌, take, true≢false}
+use Rattle.std.proofs.Common.{◌≡◌, ℕ, zero, suc, ◌+◌, ◌<◌, nat_eq, Bool, true, false, ◌&&◌, ◌||◌, List, [], ◌∷◌, ◌++◌, length, slice_get, slice_set, get_or, Option, Some, option_map, unwrap_or, refl, sym, ap, ◌∙◌, arith, ◌==◌, if◌then◌else◌, take, true≢false}
 use Rattle.std.specs.List.{list_any}
 use Rattle.std.specs.Str.{bytes_eq}
 use Rattle.std.specs.String.{string_bytes, string_eq}

@@ -5,7 +5,7 @@ use Rattle.mk_record_read.specs.declared.saved.Arrival as saved
 use Rattle.mk_record_read.specs.Seen.{came}
 use Rattle.mk_record_compare.specs.inner.Matches.{left, IsMessageNext}
 use Rattle.mk_record_read.specs.declared.saved.Asked.{Asked}
-use Rattle.mk_record_read.specs.Entries.{RecordEntry, MessageOf, step_of, entries_after}
+use Rattle.mk_record_read.specs.Entries.{MessageOf, step_of, entries_after}
 
 -- a step before which enough messages came is the next entry
 pub left_due : (n : ℕ) (A : List Arrival) (a : Asked) (steps : List Asked) → a.before ≤ n → entries_after n A (a ∷ steps) ≡ step_of a ∷ entries_after n A steps

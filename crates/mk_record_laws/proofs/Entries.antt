@@ -1,15 +1,14 @@
 -- For proofs alone. Each line of an entry, and the last line, read again as what it was written of.
-use Rattle.std.proofs.Common.{◌≡◌, ℕ, zero, suc, ◌+◌, ◌^◌, ◌<◌, ◌≤◌, ◌==◌, ◌&&◌, nat_le, nat_lt, ℤ, pos, nat_abs, Bool, true, false, cond, List, [], ◌∷◌, ◌++◌, length, map, flat_map, filter_map, Option, Some, None, refl, sym, ap, ◌∙◌, subst, arith, append_assoc, length-append}
-use Rattle.std.specs.Prelude.{codes, Result, Ok, Err}
+use Rattle.std.proofs.Common.{◌≡◌, ℕ, ◌+◌, ◌^◌, ◌<◌, ◌≤◌, ◌&&◌, nat_le, nat_lt, ℤ, pos, nat_abs, true, cond, List, [], ◌∷◌, ◌++◌, length, map, flat_map, Some, None, refl, sym, ap, ◌∙◌, subst, arith, append_assoc, length-append}
+use Rattle.std.specs.Prelude.{codes, Ok}
 use Rattle.std.specs.Result.{result_ok}
-use Rattle.std.specs.List.{list_all, cons_option}
+use Rattle.std.specs.List.{list_all}
 use Rattle.std.specs.Fmt.{decimal, signed_decimal}
-use Rattle.std.proofs.lemmas.Bool.{and_parts, and_from, ltb-true, leb-true}
+use Rattle.std.proofs.lemmas.Bool.{and_parts, ltb-true, leb-true}
 use Rattle.mk_base.specs.declared.tier.Tier.{Tier}
-use Rattle.mk_base.specs.declared.SimNo.{SimNo}
 use Rattle.mk_base.specs.declared.json.Json as tree
 use Rattle.mk_base.specs.declared.json.Json.{Json}
-use Rattle.mk_base.specs.Lists.{Each, same_text}
+use Rattle.mk_base.specs.Lists.{Each}
 use Rattle.mk_base.specs.Texts.{text_of, list_text}
 use Rattle.mk_base.specs.Trees as trees
 use Rattle.mk_base.specs.Trees.{nesting, whole_in, is_object, in_range}
@@ -21,25 +20,23 @@ use Rattle.mk_json.proofs.Layers.{folded-Text}
 use Rattle.mk_plan.specs.declared.Plan.{Plan}
 use Rattle.mk_plan.specs.declared.Message.{Message}
 use Rattle.mk_plan.specs.declared.Message.TheVariants as messages
-use Rattle.mk_plan.specs.declared.Item.{Item}
 use Rattle.mk_plan.specs.declared.Item.TheVariants as items
 use Rattle.mk_plan.specs.declared.Entry.{Entry}
 use Rattle.mk_plan.specs.declared.Entry.TheVariants.{Sent, Got}
 use Rattle.mk_plan.specs.Journals.{Arrival, arrivals}
-use Rattle.mk_message.specs.Messages.{message_in, message_of, tested}
+use Rattle.mk_message.specs.Messages.{message_in, tested}
 use Rattle.mk_message.specs.Written.{message_tree, message_text, is_readable}
 use Rattle.mk_message.proofs.ReadBack.{message_of-written, range-framed, range-request}
 use Rattle.mk_plan_check.specs.Tests.{first_bad}
 use Rattle.mk_record_read.specs.declared.kinds.LineKind.TheVariants as kinds
 use Rattle.mk_record_read.specs.declared.saved.Asked.{Asked}
-use Rattle.mk_record_read.specs.Entries.{RecordEntry, StepOf, MessageOf, entries_of, entry_of}
+use Rattle.mk_record_read.specs.Entries.{RecordEntry, StepOf, MessageOf, entries_of}
 use Rattle.mk_record_read.specs.Fields.{misformed, limited, is_between, is_below}
 use Rattle.mk_record_read.specs.Lines.{arrival_in, asked_in, step_fits}
-use Rattle.mk_record_read.specs.Reading.{State, Step, Going, Ended, Bad, line_step, kind_step, part_step, arrived, asked, end_step, is_number, miscounted, may_stand, items_read}
+use Rattle.mk_record_read.specs.Reading.{State, Ended, Bad, line_step, arrived, asked, end_step, is_number, miscounted, items_read}
 use Rattle.mk_record_read.specs.Texts.{got_line, ask_line, entry_line}
 use Rattle.mk_record_laws.specs.Again.{steps_after, is_sayable, entry_fits}
-use Rattle.mk_record_laws.proofs.Clean.{all_clean, clean-append, clean-decimal}
-use Rattle.mk_record_laws.proofs.Fields.{Field, deeper, whole_field, natural_field, read_items, cons_same, signed_is, decimal_is}
+use Rattle.mk_record_laws.proofs.Fields.{Field, whole_field, natural_field, read_items, cons_same, signed_is, decimal_is}
 use Rattle.mk_record_laws.proofs.Lines.{state, Reads, nothing, joined, a_line, entry_kind, stands, clean_line, below, small}
 use Rattle.mk_base.specs.Limits.{latest_end}
 use Rattle.mk_base.proofs.Views.{whole_in_whole}

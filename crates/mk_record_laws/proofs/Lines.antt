@@ -1,6 +1,6 @@
 -- For proofs alone. Each line of a plan, read again as what it was written of.
-use Rattle.std.proofs.Common.{◌≡◌, ℕ, zero, suc, ◌+◌, ◌^◌, ◌<◌, ◌≤◌, ◌==◌, ◌&&◌, nat_le, nat_lt, ℤ, pos, negsuc, nat_abs, Bool, true, false, cond, List, [], ◌∷◌, ◌++◌, length, map, flat_map, Option, Some, None, refl, sym, ap, ◌∙◌, subst, arith, append_assoc, int_le, int_lt}
-use Rattle.std.specs.Prelude.{not, codes, is_none, Result, Ok, Err, IfSome}
+use Rattle.std.proofs.Common.{◌≡◌, ℕ, ◌+◌, ◌^◌, ◌<◌, ◌≤◌, ◌==◌, ◌&&◌, nat_le, nat_lt, ℤ, pos, negsuc, Bool, true, false, cond, List, [], ◌∷◌, ◌++◌, length, map, flat_map, Option, Some, None, refl, sym, ap, ◌∙◌, subst, arith, append_assoc}
+use Rattle.std.specs.Prelude.{not, codes, is_none, Ok, IfSome}
 use Rattle.std.specs.List.{list_all, slice_split, onto_first}
 use Rattle.std.specs.Str.{is_utf8, chars}
 use Rattle.std.specs.Fmt.{decimal, signed_decimal}
@@ -12,10 +12,10 @@ use Rattle.mk_base.specs.declared.tier.Via.{Via}
 use Rattle.mk_base.specs.declared.tier.Via.TheVariants.{Plain, Shift, Weak}
 use Rattle.mk_base.specs.declared.json.Json as tree
 use Rattle.mk_base.specs.declared.json.Json.{Json}
-use Rattle.mk_base.specs.Lists.{Each, all_there}
+use Rattle.mk_base.specs.Lists.{Each}
 use Rattle.mk_base.specs.Texts.{quoted, list_text, text_of}
 use Rattle.mk_base.specs.Data.{IsDatumText}
-use Rattle.mk_base.specs.Trees.{in_range, is_whole, is_datum, nesting, value_depth, whole_in, text_in, bool_in, items_in, texts_in}
+use Rattle.mk_base.specs.Trees.{in_range, is_whole, is_datum, nesting, value_depth}
 use Rattle.mk_base.proofs.Lists.{append_nil}
 use Rattle.mk_base.specs.Names.{kind_named, kind_name}
 use Rattle.mk_plan.specs.declared.Plan.{Plan}
@@ -34,15 +34,15 @@ use Rattle.mk_message.specs.Messages.{tested}
 use Rattle.mk_record_read.specs.declared.kinds.LineKind.{LineKind}
 use Rattle.mk_record_read.specs.declared.kinds.LineKind.TheVariants as kinds
 use Rattle.mk_record_read.specs.declared.saved.Asked.{Asked}
-use Rattle.mk_record_read.specs.Fields.{misformed, is_between, is_below, way_in, via_of, initial_in, wholes_in}
+use Rattle.mk_record_read.specs.Fields.{misformed, is_between, is_below, way_in, via_of, initial_in}
 use Rattle.mk_record_read.specs.Lines as lines
 use Rattle.mk_record_read.specs.Lines.{with_run, with_sim, with_model, with_entity, with_conn, with_async}
-use Rattle.mk_record_read.specs.Reading.{State, Step, Going, Ended, Bad, invalid, is_feed, line_step, kind_step, part_step, plan_step, planned, with_part, place, may_stand, ends_plan, items_read, reading_from, before_lines}
+use Rattle.mk_record_read.specs.Reading.{State, Going, Bad, invalid, is_feed, line_step, kind_step, part_step, plan_step, planned, with_part, place, may_stand, ends_plan, items_read, reading_from}
 use Rattle.mk_record_read.specs.Texts.{via_text, bool_text, initial_text, run_line, sim_line, model_line, entity_line, conn_line, async_line}
 use Rattle.mk_record_read.proofs.Splitting.{reads_on}
 use Rattle.mk_record_laws.specs.Again.{model_is_text, conn_is_text}
 use Rattle.mk_record_laws.proofs.Clean.{clean, all_clean, clean-append, clean-text}
-use Rattle.mk_record_laws.proofs.Fields.{Field, deeper, text_field, whole_field, bool_field, list_field, natural_field, text_fields, text_of_list, bool_of, read_items, cons_same, quoted_is, signed_is, decimal_is, list_is, wholes, naturals, texts, signed_each, decimal_each, quoted_each, wholes_there, naturals_there, texts_there, same_naturals}
+use Rattle.mk_record_laws.proofs.Fields.{Field, text_field, whole_field, bool_field, list_field, natural_field, text_fields, text_of_list, bool_of, read_items, cons_same, quoted_is, signed_is, decimal_is, list_is, wholes, naturals, texts, signed_each, decimal_each, quoted_each, wholes_there, naturals_there, texts_there, same_naturals}
 use Rattle.mk_base.specs.Limits.{latest_end}
 use Rattle.mk_base.proofs.Bools.{and_false}
 use Rattle.mk_base.proofs.Views.{items_in_list, text_in_text, whole_in_whole}

@@ -1,15 +1,14 @@
 -- For proofs alone. The tree of a message that was read is the tree that it was read from.
-use Rattle.std.proofs.Common.{◌≡◌, ℕ, ◌^◌, ◌<◌, ◌≤◌, ◌&&◌, ℤ, pos, negsuc, nat_abs, int_le, int_lt, nat_lt, nat_le, Bool, true, false, List, [], ◌∷◌, Option, Some, None, option_map, option_and_then, Result, Ok, Err, if◌then◌else◌, refl, sym, ap, ap₂, ◌∙◌, subst, arith}
+use Rattle.std.proofs.Common.{◌≡◌, ℕ, ◌^◌, ◌&&◌, ℤ, pos, negsuc, int_le, int_lt, nat_lt, nat_le, Bool, true, false, List, [], ◌∷◌, Option, Some, None, option_map, option_and_then, Ok, if◌then◌else◌, refl, sym, ap, ap₂, ◌∙◌, subst, arith}
 use Rattle.std.specs.Ordering.{int_eq}
-use Rattle.std.proofs.lemmas.Bool.{and_parts, and_from, le-leb, lt-ltb}
+use Rattle.std.proofs.lemmas.Bool.{and_parts, and_from, le-leb}
 use Rattle.std.proofs.lemmas.Int.{ints}
 use Rattle.mk_base.specs.declared.json.Json as tree
 use Rattle.mk_base.specs.declared.json.Json.{Json}
-use Rattle.mk_base.specs.Trees as trees
 use Rattle.mk_base.specs.Trees.{whole_in, text_in, items_in, is_object, nesting}
 use Rattle.mk_base.proofs.Lists.{some_same, none_some}
 use Rattle.mk_plan.specs.declared.Message.{Message}
-use Rattle.mk_plan.specs.declared.Message.TheVariants.{Ask, Success, Failure}
+use Rattle.mk_plan.specs.declared.Message.TheVariants.{Ask, Failure}
 use Rattle.mk_base.specs.Proper.{is_proper}
 use Rattle.mk_message.specs.declared.reading.Kind.{Kind}
 use Rattle.mk_message.specs.declared.reading.Kind.TheVariants as kind

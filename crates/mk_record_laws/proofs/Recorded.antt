@@ -1,6 +1,6 @@
 -- For proofs alone. A journal over what a record says can be recorded.
-use Rattle.std.proofs.Common.{◌≡◌, ℕ, suc, ◌+◌, ◌*◌, ◌<◌, ◌≤◌, ◌==◌, ◌&&◌, nat_lt, ℤ, pos, ◌≤ℤ◌, int_le, Bool, true, List, [], ◌∷◌, length, filter, Option, refl, sym, ap, ◌∙◌, subst, arith}
-use Rattle.std.specs.List.{list_all, count_by}
+use Rattle.std.proofs.Common.{◌≡◌, ℕ, ◌≤◌, ◌==◌, ◌&&◌, nat_lt, ℤ, pos, ◌≤ℤ◌, Bool, true, List, [], ◌∷◌, length, Option, refl, sym, subst, arith}
+use Rattle.std.specs.List.{list_all}
 use Rattle.std.proofs.lemmas.Bool.{and_parts, and_from, lt-ltb}
 use Rattle.std.proofs.lemmas.Int.{ints}
 use Rattle.std.proofs.lemmas.List.Sums.{length-filter}
@@ -17,8 +17,7 @@ use Rattle.mk_base.specs.declared.tier.Tier.{Tier}
 use Rattle.mk_plan_check.specs.Tests as tests
 use Rattle.mk_plan_check.proofs.Meaning.{from_well_formed}
 use Rattle.mk_record_read.specs.declared.saved.Asked.{Asked}
-use Rattle.mk_record_read.specs.Entries.{RecordEntry, StepOf, MessageOf, entries_of}
-use Rattle.mk_record_read.specs.Lines.{step_fits}
+use Rattle.mk_record_read.specs.Entries.{StepOf, entries_of}
 use Rattle.mk_record_read.specs.Reading.{reading, Said}
 use Rattle.mk_record_laws.specs.Again.{IsRecordable, entry_fits}
 use Rattle.mk_record_laws.proofs.Counting.{all_counted}

@@ -1,5 +1,5 @@
 -- For proofs alone. The numbers of each Step of an orderly journal are within the limits of a record.
-use Rattle.std.proofs.Common.{◌≡◌, ℕ, ◌<◌, ◌≤◌, ℤ, pos, ◌≤ℤ◌, ◌<ℤ◌, ◌&&◌, Bool, true, false, List, [], ◌∷◌, ◌++◌, Option, Some, None, refl, sym, ap, ◌∙◌, subst, arith, int_lt, int_le, nat_le, true≢false}
+use Rattle.std.proofs.Common.{◌≡◌, ℕ, ◌<◌, ◌≤◌, ℤ, pos, ◌≤ℤ◌, ◌<ℤ◌, false, List, [], ◌∷◌, ◌++◌, Option, Some, None, refl, sym, subst, arith, int_lt, nat_le, true≢false}
 use Rattle.std.specs.Prelude.{⊤}
 use Rattle.std.proofs.lemmas.Bool.{and_parts, leb-true}
 use Rattle.std.proofs.lemmas.Int.{ints}
@@ -11,9 +11,8 @@ use Rattle.mk_plan.specs.declared.Item.TheVariants.{Step, GetData, Answer, Refus
 use Rattle.mk_plan.specs.declared.Entry.{Entry}
 use Rattle.mk_plan.specs.declared.Entry.TheVariants.{Sent, Got}
 use Rattle.mk_plan.specs.Plans.{IsValidPlan, sim_count}
-use Rattle.mk_plan.specs.Due.{is_in_run}
 use Rattle.mk_plan.specs.Report.{is_step}
-use Rattle.mk_plan.specs.Journals.{View, Owed, view, note}
+use Rattle.mk_plan.specs.Journals.{View, Owed, view}
 use Rattle.mk_plan.specs.Ready.{IsReady}
 use Rattle.mk_plan.specs.Advance.{IsAdvance}
 use Rattle.mk_plan.specs.Orderly.{IsNext, IsAllowed, IsOrderlyFrom, IsOrderlySoFar}

@@ -1,6 +1,6 @@
 -- For proofs alone. What the lines of a record say is made of texts, and its messages may stand in
 -- a line again.
-use Rattle.std.proofs.Common.{◌≡◌, ℕ, ◌+◌, ◌&&◌, nat_lt, nat_le, ℤ, pos, nat_abs, Bool, true, false, not, List, [], ◌∷◌, ◌++◌, length, map, Option, Some, None, option_and_then, is_none, refl, sym, ap, ◌∙◌, subst, arith, if◌then◌else◌}
+use Rattle.std.proofs.Common.{◌≡◌, ℕ, ◌+◌, ◌&&◌, nat_le, ℤ, nat_abs, Bool, true, false, not, List, [], ◌∷◌, ◌++◌, length, map, Option, Some, None, is_none, refl, sym, ap, ◌∙◌, subst, arith, if◌then◌else◌}
 use Rattle.std.specs.Prelude.{⊤, Result, Ok, Err, IfSome, codes}
 use Rattle.std.specs.Result.{result_ok}
 use Rattle.std.specs.List.{list_all, slice_split}
@@ -18,7 +18,6 @@ use Rattle.mk_plan.specs.declared.Plan.{Plan}
 use Rattle.mk_plan.specs.declared.PlanSim.{PlanSim}
 use Rattle.mk_plan.specs.declared.PlanEntity.{PlanEntity}
 use Rattle.mk_plan.specs.declared.Conn.{Conn}
-use Rattle.mk_plan.specs.declared.Message.{Message}
 use Rattle.mk_plan.specs.Journals.{Arrival}
 use Rattle.mk_base.specs.Proper.{is_proper}
 use Rattle.mk_base.specs.Names.{kind_named}
@@ -30,7 +29,7 @@ use Rattle.mk_record_read.specs.declared.kinds.LineKind.TheVariants.{Head, Run, 
 use Rattle.mk_record_read.specs.declared.saved.Asked.{Asked}
 use Rattle.mk_record_read.specs.Fields.{misformed, out_of_limits, limited, is_below, wholes_in, initial_in, way_in, via_of}
 use Rattle.mk_record_read.specs.Lines.{with_run, run_fits, with_sim, sim_fits, with_model, with_entity, entity_fits, with_way, with_conn, with_async, arrival_in, asked_in}
-use Rattle.mk_record_read.specs.Reading.{State, before_lines, Step, Going, Ended, Bad, Reading, Said, Faulty, planned, arrived, asked, items_read, end_step, with_part, is_second, steps_in, plan_step, head_step, part_step, kind_step, known_step, line_step, kind_of_word, word_of, rest_of, ends_plan, may_stand, invalid, closed, overlong, reading_from, reading, is_feed, is_number, miscounted}
+use Rattle.mk_record_read.specs.Reading.{State, before_lines, Step, Going, Ended, Bad, Reading, Said, Faulty, planned, arrived, asked, items_read, end_step, with_part, is_second, steps_in, plan_step, head_step, part_step, kind_step, known_step, line_step, kind_of_word, word_of, rest_of, ends_plan, may_stand, invalid, closed, reading_from, reading, is_feed, is_number, miscounted}
 use Rattle.std.specs.Fmt.{decimal}
 use Rattle.mk_record_laws.specs.Again.{HasTexts, is_sayable, model_is_text, conn_is_text}
 use Rattle.mk_record_laws.proofs.Trees.{IsSoundField, read_sound, items_are, text_utf8, texts_utf8}

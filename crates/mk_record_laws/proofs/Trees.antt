@@ -1,8 +1,7 @@
 -- For proofs alone. A tree is known by what is read off it, and what a sound tree holds is sound.
-use Rattle.std.proofs.Common.{◌≡◌, ℕ, ◌≤◌, ℤ, pos, ◌&&◌, Bool, true, false, List, [], ◌∷◌, map, Option, Some, None, option_and_then, option_map, refl, sym, ap, ◌∙◌, subst, arith, suc, max}
+use Rattle.std.proofs.Common.{◌≡◌, ℕ, ◌≤◌, ℤ, true, List, [], ◌∷◌, map, Option, Some, None, option_and_then, option_map, refl, sym, ap, ◌∙◌, subst, arith, suc}
 use Rattle.std.specs.List.{list_all}
 use Rattle.std.specs.Str.{is_utf8}
-use Rattle.std.specs.Prelude.{IfSome}
 use Rattle.std.proofs.lemmas.Bool.{and_parts}
 use Rattle.mk_base.specs.declared.json.Json as tree
 use Rattle.mk_base.specs.declared.json.Json.{Json}

@@ -1,10 +1,10 @@
 -- For proofs alone. A whole record, read again as what it was written of.
-use Rattle.std.proofs.Common.{◌≡◌, ℕ, suc, ◌+◌, ◌^◌, ◌<◌, ◌≤◌, ◌&&◌, nat_le, nat_lt, ℤ, pos, Bool, true, List, [], ◌∷◌, ◌++◌, length, map, flat_map, Option, Some, None, refl, sym, ap, ◌∙◌, subst, arith, append_assoc, int_le}
+use Rattle.std.proofs.Common.{◌≡◌, ℕ, ◌≤◌, ◌&&◌, nat_le, nat_lt, pos, Bool, true, List, [], ◌∷◌, ◌++◌, length, flat_map, Some, None, refl, sym, ap, ◌∙◌, arith, append_assoc, int_le}
 use Rattle.std.specs.Prelude.{codes, IfSome}
 use Rattle.std.specs.List.{list_all, slice_split}
 use Rattle.std.specs.Str.{is_utf8}
 use Rattle.std.specs.Fmt.{decimal}
-use Rattle.std.proofs.lemmas.Bool.{and_parts, and_from, ltb-true, leb-true}
+use Rattle.std.proofs.lemmas.Bool.{and_parts, ltb-true, leb-true}
 use Rattle.mk_base.specs.Data.{IsDatumText}
 use Rattle.mk_base.specs.Lists.{Each}
 use Rattle.mk_base.proofs.Lists.{append_nil}
@@ -19,7 +19,6 @@ use Rattle.mk_plan.specs.Journals.{Arrival, arrivals}
 use Rattle.mk_plan_check.specs.Tests as tests
 use Rattle.mk_plan_check.specs.Tests.{first_bad}
 use Rattle.mk_plan_check.proofs.Meaning.{is_valid, from_well_formed}
-use Rattle.mk_record_read.specs.declared.saved.Asked.{Asked}
 use Rattle.mk_record_read.specs.Entries.{RecordEntry, entries_of}
 use Rattle.mk_record_read.specs.Reading.{State, Said, is_feed, reading, reading_from, before_lines}
 use Rattle.mk_record_read.specs.Texts.{record_text, plan_text, run_line, sim_line, model_line, entity_line, conn_line, async_line, entry_line}

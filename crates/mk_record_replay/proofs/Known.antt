@@ -1,13 +1,10 @@
 -- The messages of a record are such as a core takes.
-use Rattle.std.proofs.Common.{◌≡◌, zero, suc, true, List, [], ◌∷◌, map, All, refl, arith}
+use Rattle.std.proofs.Common.{zero, suc, List, [], ◌∷◌, map, All, arith}
 use Rattle.mk_plan.specs.declared.Plan.{Plan}
-use Rattle.mk_plan.specs.declared.Message.{Message}
-use Rattle.mk_plan.specs.declared.Message.TheVariants.{Ask, Success, Failure}
 use Rattle.mk_record_read.specs.declared.saved.Arrival.{Arrival}
 use Rattle.mk_record_read.specs.Seen.{came}
 use Rattle.mk_record_read.specs.Steps.{IsKnown}
 use Rattle.mk_record_replay.specs.Runs.{CanArrive}
-use Rattle.mk_plan.specs.Messages.{is_message_in_range}
 
 all_first : {X : Type 0} (Q : X → Type 0) (x : X) (xs : List X) → Q x → All Q xs → All Q (x ∷ xs)
 all_first Q x xs here more zero d h = here

@@ -1,9 +1,9 @@
 -- The parts of a report, entry by entry, and the report that they make.
-use Rattle.std.proofs.Common.{Result, Ok, Err, OnOk, ◌≡◌, ℕ, zero, suc, ◌+◌, ◌-◌, ◌^◌, ◌<◌, ◌≤◌, ◌==◌, true, false, cond, List, [], ◌∷◌, ◌++◌, length, flat_map, filter, filter_map, Option, Some, None, slice_get, slice_set, get_or, All, refl, sym, ap, ◌∙◌, subst, length-append, inl, inr, arith}
+use Rattle.std.proofs.Common.{Result, Ok, Err, OnOk, ◌≡◌, ℕ, zero, suc, ◌+◌, ◌-◌, ◌^◌, ◌<◌, ◌≤◌, true, false, cond, List, [], ◌∷◌, ◌++◌, length, flat_map, filter, Option, Some, None, slice_get, slice_set, get_or, All, refl, sym, ap, ◌∙◌, subst, length-append, inl, inr, arith}
 use Rattle.std.specs.List.{cons_option}
-use Rattle.std.proofs.lemmas.Bool.{cases_eq, eqb-true, eq-eqb}
+use Rattle.std.proofs.lemmas.Bool.{cases_eq}
 use Rattle.mk_base.specs.declared.SimNo.{SimNo}
-use Rattle.mk_base.proofs.Lists.{some_same, get_is, below_get, append_nil, filter_append, flat_map_append, filter_map_append, length_set, set_here, set_else}
+use Rattle.mk_base.proofs.Lists.{some_same, get_is, below_get, append_nil, filter_append, flat_map_append, length_set, set_here, set_else}
 use Rattle.mk_plan.specs.declared.Item.{Item}
 use Rattle.mk_plan.specs.declared.Message.{Message}
 use Rattle.mk_plan.specs.declared.Entry.{Entry}

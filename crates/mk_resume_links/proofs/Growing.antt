@@ -1,19 +1,19 @@
 -- What a resumed run's journal has of each simulator once it has got an entry more.
-use Rattle.std.proofs.Common.{◌≡◌, ◌⊎◌, inl, inr, ℕ, zero, suc, ◌+◌, ◌<◌, ◌≤◌, Bool, true, List, [], ◌∷◌, ◌++◌, length, take, slice_get, Some, if◌then◌else◌, refl, sym, ap, ◌∙◌, subst, arith, length-append}
+use Rattle.std.proofs.Common.{◌≡◌, inl, inr, ℕ, zero, suc, ◌+◌, ◌<◌, ◌≤◌, true, List, [], ◌∷◌, ◌++◌, length, take, slice_get, Some, refl, sym, ap, ◌∙◌, subst, arith, length-append}
 use Rattle.std.proofs.lemmas.List.{take_all}
 use Rattle.mk_base.specs.declared.SimNo.{SimNo}
-use Rattle.mk_base.proofs.Lists.{append_nil, none_some, some_same, filter_map_append}
+use Rattle.mk_base.proofs.Lists.{append_nil, none_some, some_same}
 use Rattle.mk_plan.specs.declared.Item.{Item}
 use Rattle.mk_plan.specs.declared.Message.{Message}
 use Rattle.mk_plan.specs.declared.Entry.{Entry}
 use Rattle.mk_plan.specs.declared.Entry.TheVariants.{Sent, Got}
-use Rattle.mk_plan.specs.Journals.{sent, got, got_from}
+use Rattle.mk_plan.specs.Journals.{sent, got}
 use Rattle.mk_run_laws.specs.Crews.{given_by}
 use Rattle.mk_run_laws.proofs.Stepping.{sent_here, sent_away, got_here, got_away, sent_got, got_given, got_sent, given_here, given_away}
 use Rattle.mk_resume_walk.specs.Talks.{free_items}
 use Rattle.mk_resume_walk.proofs.UpTo.{free_all, free_front, up_to_behind, up_to_head}
 use Rattle.mk_resume_links.specs.Rests.{repeated}
-use Rattle.mk_base.proofs.Counts.{below_or_not, not_same, same_self}
+use Rattle.mk_base.proofs.Counts.{below_or_not, same_self}
 
 -- ---- lists
 

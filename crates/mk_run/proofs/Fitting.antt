@@ -1,5 +1,5 @@
 -- The plan of a run fits the kinds of its simulators.
-use Rattle.std.proofs.Common.{◌≡◌, ◌≢◌, inl, inr, ℕ, ℤ, zero, suc, ◌+◌, ◌<◌, ◌==◌, ◌≤ℤ◌, pos, true, List, [], ◌∷◌, ◌++◌, map, filter, filter_map, fold, length, take, Option, Some, None, Result, Ok, Err, option_map, unwrap_or, slice_get, codes, refl, sym, ap, ◌∙◌, subst, arith}
+use Rattle.std.proofs.Common.{◌≡◌, ◌≢◌, inl, inr, ℕ, ℤ, zero, suc, ◌+◌, ◌<◌, ◌==◌, ◌≤ℤ◌, pos, true, List, [], ◌∷◌, map, filter, filter_map, fold, length, take, Option, Some, None, Result, Ok, Err, option_map, unwrap_or, slice_get, codes, refl, sym, ap, ◌∙◌, subst, arith}
 use Rattle.std.specs.List.{enumerate_from}
 use Rattle.std.proofs.lemmas.Int.{ints}
 use Rattle.std.proofs.lemmas.Option.{slice_get_within, get_or_from_slice_get}
@@ -9,14 +9,14 @@ use Rattle.mk_base.specs.declared.json.Json.{Json}
 use Rattle.mk_base.specs.Lists.{IsIn, Each, put, placed}
 use Rattle.mk_base.proofs.Lists.{some_same, none_some, below_get, in_filter}
 use Rattle.mk_plan.specs.declared.Call.{Call}
-use Rattle.mk_plan.specs.declared.Call.TheVariants.{Init, Create, SetupDone, Stop}
+use Rattle.mk_plan.specs.declared.Call.TheVariants.{Init}
 use Rattle.mk_plan.specs.declared.Conn.{Conn}
 use Rattle.mk_plan.specs.declared.Message.{Message}
 use Rattle.mk_plan.specs.declared.Message.TheVariants.{Success}
 use Rattle.mk_plan.specs.declared.Plan.{Plan}
 use Rattle.mk_plan.specs.declared.PlanEntity.{PlanEntity}
 use Rattle.mk_plan.specs.declared.Want.{Want}
-use Rattle.mk_plan.specs.Plans.{IsValidPlan, kind_of, owner, eid_of, first_id, sim_count}
+use Rattle.mk_plan.specs.Plans.{IsValidPlan, kind_of, owner, first_id, sim_count}
 use Rattle.mk_plan.specs.Turns.{wanted, want_of, want_order}
 use Rattle.mk_meta.specs.declared.meta.Meta.{Meta}
 use Rattle.mk_meta.specs.Metadata.{meta_in}
@@ -25,11 +25,11 @@ use Rattle.mk_scenario.specs.declared.parts.Scenario.{Scenario}
 use Rattle.mk_launch.specs.Ready.{IsPrepared}
 use Rattle.mk_local.specs.declared.turn.Turn.{Turn}
 use Rattle.mk_local.specs.Accepted.{meta_of, IsMetadataAccepted}
-use Rattle.mk_local.specs.Calls.{after_call, message, init_content, create_content, unless_bad, unless_refused, first_bad, is_init_param}
+use Rattle.mk_local.specs.Calls.{after_call, message, unless_bad, unless_refused, first_bad, is_init_param}
 use Rattle.mk_local.specs.Kinds.{name_of, type_of}
 use Rattle.mk_local.specs.Metadata.{metadata}
 use Rattle.mk_local.specs.Simulators.{Simulator}
-use Rattle.mk_run_laws.specs.Handshake.{Request, setup_requests, call_to, calls_to, setup_count, is_within}
+use Rattle.mk_run_laws.specs.Handshake.{setup_requests, call_to, calls_to, setup_count, is_within}
 use Rattle.mk_setup.specs.Laws.{IsKindSaid}
 use Rattle.mk_setup.specs.Requests.{id_before}
 use Rattle.mk_run_local.specs.Laws.{FitsKinds}

@@ -1,12 +1,12 @@
 -- The simulators of a prepared scenario that are within the program.
-use Rattle.std.proofs.Common.{◌≡◌, ℕ, true, false, List, [], map, Option, Some, None, slice_get, refl}
+use Rattle.std.proofs.Common.{◌≡◌, ℕ, true, false, List, map, Option, Some, None, slice_get, refl}
 use Rattle.std.specs.Prelude.{option_map, option_and_then, unwrap_or}
-use Rattle.mk_base.proofs.Lists.{none_some, at_in, in_each}
+use Rattle.mk_base.proofs.Lists.{none_some}
 use Rattle.mk_scenario.specs.declared.parts.Begin.{Begin}
 use Rattle.mk_scenario.specs.declared.parts.Begin.TheVariants.{Command, Connect, Local}
 use Rattle.mk_scenario.specs.declared.parts.SimPart.{SimPart}
 use Rattle.mk_scenario.specs.declared.parts.Scenario.{Scenario}
-use Rattle.mk_launch.specs.Ready.{IsPrepared, CanBegin}
+use Rattle.mk_launch.specs.Ready.{CanBegin}
 use Rattle.mk_local.specs.declared.turn.Turn.{Turn}
 use Rattle.mk_local.specs.Kinds.{name_of}
 use Rattle.mk_local.specs.Simulators.{Simulator}

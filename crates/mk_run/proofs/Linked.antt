@@ -1,5 +1,5 @@
 -- Which simulators have a channel, and which are within the program.
-use Rattle.std.proofs.Common.{◌≡◌, ℕ, ◌+◌, ◌<◌, Bool, true, false, not, List, [], length, take, filter, Option, Some, None, option_map, option_and_then, unwrap_or, slice_get, slice_set, refl, sym, ap, ◌∙◌, subst, inl, inr, true≢false, if◌then◌else◌}
+use Rattle.std.proofs.Common.{◌≡◌, ℕ, ◌+◌, ◌<◌, Bool, true, false, not, List, length, take, filter, Option, Some, None, option_map, option_and_then, unwrap_or, slice_get, slice_set, refl, sym, ap, ◌∙◌, subst, inl, inr, true≢false, if◌then◌else◌}
 use Rattle.std.proofs.lemmas.Option.{slice_get_within}
 use Rattle.mk_base.specs.declared.LinkNo.{LinkNo}
 use Rattle.mk_base.proofs.Lists.{none_some, set_here, set_else}

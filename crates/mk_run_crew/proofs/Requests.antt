@@ -1,7 +1,7 @@
 -- The requests of a handshake, one after another, and the answers to them.
-use Rattle.std.proofs.Common.{◌≡◌, ℕ, zero, suc, ◌+◌, ◌==◌, Bool, true, false, List, [], ◌∷◌, ◌++◌, length, take, drop, map, filter_map, fold, Option, Some, None, slice_get, refl, sym, ap, ◌∙◌, subst, ◌⊎◌, inl, inr, if◌then◌else◌}
+use Rattle.std.proofs.Common.{◌≡◌, ℕ, zero, suc, ◌==◌, true, false, List, [], ◌∷◌, ◌++◌, length, take, drop, map, filter_map, fold, Option, Some, None, slice_get, refl, sym, ap, ◌∙◌, subst, ◌⊎◌, inl, inr, if◌then◌else◌}
 use Rattle.std.specs.Prelude.{option_map}
-use Rattle.std.specs.List.{cons_option, enumerate_from}
+use Rattle.std.specs.List.{enumerate_from}
 use Rattle.mk_base.specs.Lists.{IsIn}
 use Rattle.mk_base.proofs.Lists.{none_some, some_same, append_nil, at_in, filter_map_append, in_either, in_map}
 use Rattle.mk_plan.specs.declared.Call.{Call}
@@ -16,7 +16,6 @@ use Rattle.mk_local.specs.Simulators.{Simulator}
 use Rattle.mk_run_laws.specs.Handshake.{Request, setup_requests, call_to, is_within}
 use Rattle.mk_run_local.specs.Made.{first_at}
 use Rattle.mk_run_crew.specs.Answers.{answers_to, sim_after, IsKindAnswer, AreKindAnswers}
-use Rattle.mk_base.proofs.Counts.{not_same, same_self}
 use Rattle.mk_run_laws.proofs.Greeting.{one_here, one_away}
 
 -- ---- lists

@@ -1,5 +1,5 @@
 -- How many links were started.
-use Rattle.std.proofs.Common.{◌≡◌, ℕ, suc, ◌+◌, ◌<◌, ◌≤◌, ◌&&◌, not, Bool, true, false, cond, List, [], ◌∷◌, ◌++◌, take, length, length-append, length-take-le, Option, Err, refl, sym, ap, ◌∙◌, subst, ◌⊎◌, inl, inr, arith, true≢false}
+use Rattle.std.proofs.Common.{◌≡◌, ℕ, suc, ◌+◌, ◌<◌, ◌≤◌, not, Bool, true, cond, List, [], ◌∷◌, ◌++◌, take, length, length-append, length-take-le, Option, Err, refl, sym, ap, ◌∙◌, subst, ◌⊎◌, inl, inr, arith}
 use Rattle.std.specs.Prelude.{option_to_list, filter}
 use Rattle.std.specs.List.{list_all}
 use Rattle.mk_base.specs.declared.LinkNo.{LinkNo}

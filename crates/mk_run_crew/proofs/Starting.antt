@@ -1,5 +1,5 @@
 -- The links that a start leaves, and their end.
-use Rattle.std.proofs.Common.{◌≡◌, ℕ, ◌+◌, ◌<◌, ◌||◌, not, Bool, true, false, cond, List, [], ◌∷◌, ◌++◌, take, length, Option, Some, None, slice_get, Err, refl, sym, ap, ◌∙◌, subst, ◌⊎◌, inl, inr, arith, zero, suc, true≢false}
+use Rattle.std.proofs.Common.{◌≡◌, ℕ, ◌+◌, ◌<◌, ◌||◌, not, Bool, true, false, cond, List, [], ◌∷◌, ◌++◌, take, length, Option, Some, slice_get, Err, refl, sym, ap, ◌∙◌, subst, ◌⊎◌, inl, inr, arith, zero, suc, true≢false}
 use Rattle.std.specs.Prelude.{option_to_list}
 use Rattle.std.specs.List.{list_any}
 use Rattle.mk_base.specs.declared.LinkNo.{LinkNo}

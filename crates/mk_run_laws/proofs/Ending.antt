@@ -1,5 +1,5 @@
 -- What a run leaves when it is stopped: on each link, and at each rest.
-use Rattle.std.proofs.Common.{◌≡◌, ℕ, suc, ◌+◌, true, List, [], ◌∷◌, ◌++◌, length, take, drop, Some, None, refl, sym, ap, ◌∙◌, subst, ◌⊎◌, inl, inr, append_assoc}
+use Rattle.std.proofs.Common.{◌≡◌, ℕ, true, List, [], ◌∷◌, ◌++◌, length, take, drop, Some, None, sym, ap, ◌∙◌, subst, ◌⊎◌, inl, inr, append_assoc}
 use Rattle.std.proofs.Math.Seq.{drop-append_seam, take-append_seam, take-length}
 use Rattle.mk_base.specs.declared.LinkNo.{LinkNo}
 use Rattle.mk_base.specs.Lists.{BeginsWith}
@@ -17,8 +17,7 @@ use Rattle.mk_outside.specs.declared.fleet.LogEntry.{LogEntry}
 use Rattle.mk_outside.specs.declared.fleet.LogEntry.TheVariants.{NotSaid, Rest}
 use Rattle.mk_outside.specs.Logs.{heard_on, said_on, last_write}
 use Rattle.mk_run_laws.specs.Hearing.{messages_heard, rest_heard, first_message}
-use Rattle.mk_run_laws.specs.Handshake.{setup_count, setup_payloads, call_payloads, calls_to, sim_link}
-use Rattle.mk_plan.specs.declared.Call.{Call}
+use Rattle.mk_run_laws.specs.Handshake.{setup_count, setup_payloads, calls_to, sim_link}
 use Rattle.mk_plan.specs.Sequential.{Messages, id_after}
 use Rattle.mk_run_laws.specs.Payloads.{AreFramed, item_payloads, link_payloads}
 use Rattle.mk_run_laws.specs.Channels.{Channel, IsStopped}

@@ -1,22 +1,22 @@
 -- How a channel's account over a log goes on with the entries of a call.
-use Rattle.std.proofs.Common.{◌≡◌, ℕ, Bool, List, [], ◌∷◌, ◌++◌, Option, Some, None, refl, sym, ap, ◌∙◌, subst, ◌⊎◌, inl, inr, append_assoc, true≢false, if◌then◌else◌}
+use Rattle.std.proofs.Common.{◌≡◌, ℕ, Bool, List, [], ◌∷◌, ◌++◌, Option, Some, None, refl, sym, ap, ◌∙◌, subst, ◌⊎◌, inl, inr, append_assoc, true≢false}
 use Rattle.mk_base.specs.declared.LinkNo.{LinkNo}
 use Rattle.mk_base.specs.Lists.{BeginsWith}
-use Rattle.mk_base.proofs.Lists.{append_nil, flat_map_append, none_some, some_same}
+use Rattle.mk_base.proofs.Lists.{append_nil, none_some, some_same}
 use Rattle.mk_plan.specs.declared.Call.TheVariants.{Stop}
 use Rattle.mk_plan.specs.declared.Message.{Message}
 use Rattle.mk_message.specs.Written.{call_text}
 use Rattle.mk_frame.specs.Frames.{frame_of, frames_of}
 use Rattle.mk_outside.specs.declared.fleet.LogEntry.{LogEntry}
 use Rattle.mk_outside.specs.declared.fleet.LogEntry.TheVariants.{NotHeard, NotSaid}
-use Rattle.mk_outside.specs.Logs.{heard_by, said_by, heard_on, said_on, later_of, last_that, last_read, last_write, is_read, is_write}
+use Rattle.mk_outside.specs.Logs.{heard_on, said_on, later_of, last_that, last_read, last_write, is_read, is_write}
 use Rattle.mk_run_laws.specs.Hearing.{Takes}
 use Rattle.mk_run_laws.specs.Payloads.{AreFramed, IsFramed}
 use Rattle.mk_run_laws.specs.Channels.{Channel, IsParkedIn, StaysParked, IsMoved, IsChannelAt, queued, IsStopped}
 use Rattle.mk_run_laws.proofs.Taking.{takes_more}
 use Rattle.mk_run_laws.specs.Crews.{IsMovedAt}
-use Rattle.mk_outside.proofs.OnLogs.{heard-append, said-append, later-assoc, later-none, last-append}
-use Rattle.mk_frame.proofs.OnFrames.{frames_of-append, frames_of-push}
+use Rattle.mk_outside.proofs.OnLogs.{heard-append, said-append, last-append}
+use Rattle.mk_frame.proofs.OnFrames.{frames_of-push}
 
 -- ---- logs
 

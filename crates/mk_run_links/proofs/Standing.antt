@@ -1,5 +1,5 @@
 -- The turns of a crew's links, while one channel is set.
-use Rattle.std.proofs.Common.{◌≡◌, ◌<◌, ℕ, arith, length, inl, inr, Bool, true, false, not, cond, List, [], ◌∷◌, ◌++◌, Some, refl, sym, ap, ◌∙◌, subst, true≢false, if◌then◌else◌}
+use Rattle.std.proofs.Common.{◌≡◌, ◌<◌, ℕ, arith, length, inl, inr, true, false, List, [], ◌∷◌, ◌++◌, Some, refl, sym, ap, ◌∙◌, subst, true≢false, if◌then◌else◌}
 use Rattle.std.specs.List.{list_any}
 use Rattle.mk_base.specs.declared.LinkNo.{LinkNo}
 use Rattle.mk_base.specs.Lists.{IsIn}
@@ -16,7 +16,7 @@ use Rattle.mk_run_laws.specs.Channels.{Channel, queued}
 use Rattle.mk_run_links.specs.inner.OneChannel.{PollsAt, unparked}
 use Rattle.mk_run_links.specs.Places.{Channels, IsSet, at}
 use Rattle.mk_run_links.specs.inner.Standing.{HasTurn, AreApart, StandsBut, HaveTurns}
-use Rattle.mk_base.proofs.Counts.{not_same, same_or_not, same_self}
+use Rattle.mk_base.proofs.Counts.{not_same, same_or_not}
 use Rattle.mk_launch.proofs.Placing.{without_itself}
 
 -- where one channel is set, each channel was on its link before

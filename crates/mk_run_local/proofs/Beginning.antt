@@ -1,6 +1,5 @@
 -- The simulators within the program as they begin.
 use Rattle.std.proofs.Common.{◌≡◌, ℕ, zero, suc, ◌||◌, Bool, true, false, cond, List, [], ◌∷◌, map, slice_get, Option, Some, None, option_map, option_and_then, refl, sym, ap, ◌∙◌, subst}
-use Rattle.std.specs.List.{list_any}
 use Rattle.mk_base.specs.declared.SimNo.{SimNo}
 use Rattle.mk_plan.specs.declared.Message.{Message}
 use Rattle.mk_base.specs.Lists.{IsIn, same_text, is_among}
@@ -8,7 +7,6 @@ use Rattle.mk_scenario.specs.declared.parts.Begin.{Begin}
 use Rattle.mk_scenario.specs.declared.parts.Begin.TheVariants.{Command, Connect, Local}
 use Rattle.mk_scenario.specs.declared.parts.SimPart.{SimPart}
 use Rattle.mk_scenario.specs.declared.parts.Scenario.{Scenario}
-use Rattle.mk_launch.specs.declared.faults.LaunchFault.{LaunchFault}
 use Rattle.mk_launch.specs.declared.faults.LaunchFault.TheVariants.{NoKind}
 use Rattle.mk_launch.specs.Ready.{begin_fault}
 use Rattle.mk_local.specs.declared.turn.Turn.{Turn}
@@ -16,7 +14,7 @@ use Rattle.mk_local.specs.Kinds.{has_kind, kind_named, name_of}
 use Rattle.mk_local.specs.Simulators.{Simulator, new_simulator}
 use Rattle.mk_local.proofs.Named.{named_in}
 use Rattle.mk_run_local.specs.inner.Standing.{IsFit, AreFit}
-use Rattle.mk_run_local.specs.Seen.{WithinState, AreOf, arrival, begun_as, first_of, new_within, sim_at}
+use Rattle.mk_run_local.specs.Seen.{WithinState, AreOf, arrival, begun_as, first_of, new_within}
 
 same_kinds : (name : List ℕ) (rows : List Turn) → is_among (map name_of rows) name ≡ has_kind name rows
 same_kinds name [] = refl

@@ -1,5 +1,5 @@
 -- What a simulator within the program sends last is its reply to the last item.
-use Rattle.std.proofs.Common.{◌≡◌, ℕ, suc, ◌+◌, ◌<◌, ℤ, ◌≤ℤ◌, pos, negsuc, Bool, true, false, cond, List, [], ◌∷◌, ◌++◌, length, map, filter, fold, option_to_list, is_some, slice_get, Option, Some, None, option_map, option_and_then, unwrap_or, nat_abs, refl, sym, ap, ◌∙◌, subst, arith, append_assoc}
+use Rattle.std.proofs.Common.{◌≡◌, ℕ, ◌+◌, ◌<◌, ℤ, ◌≤ℤ◌, pos, negsuc, Bool, true, false, cond, List, [], ◌∷◌, ◌++◌, map, fold, option_to_list, is_some, slice_get, Option, Some, None, option_map, option_and_then, unwrap_or, nat_abs, refl, sym, ap, ◌∙◌, subst, arith, append_assoc}
 use Rattle.std.proofs.lemmas.Int.{ints}
 use Rattle.mk_base.specs.declared.json.Json.{Json}
 use Rattle.mk_base.specs.declared.tier.Tier.{Tier}
@@ -13,9 +13,9 @@ use Rattle.mk_plan.specs.declared.Message.{Message}
 use Rattle.mk_plan.specs.declared.Message.TheVariants.{Success}
 use Rattle.mk_plan.specs.declared.Place.{Place}
 use Rattle.mk_plan.specs.declared.Place.TheVariants.{Stepping, Fetching}
-use Rattle.mk_plan.specs.Plans.{first_id, kind_of}
+use Rattle.mk_plan.specs.Plans.{first_id}
 use Rattle.mk_plan.specs.Turns.{is_wrong, wanted, wrong}
-use Rattle.mk_plan.specs.Sequential.{Visit, visits, at_tier, takes_id, id_after}
+use Rattle.mk_plan.specs.Sequential.{Visit, visits, takes_id, id_after}
 use Rattle.mk_plan.specs.Journals.{bare}
 use Rattle.mk_order.proofs.VisitOrder.{visits_are}
 use Rattle.mk_scenario.specs.declared.parts.Scenario.{Scenario}
@@ -25,15 +25,15 @@ use Rattle.mk_scenario.specs.declared.parts.Begin.TheVariants.{Command, Connect,
 use Rattle.mk_run_laws.specs.Handshake.{calls_to, is_within, setup_count}
 use Rattle.mk_run_laws.specs.Kinds.{RepliesAreRight}
 use Rattle.mk_local.specs.declared.turn.Turn.{Turn}
-use Rattle.mk_local.specs.Kinds.{kind_named, type_of}
+use Rattle.mk_local.specs.Kinds.{kind_named}
 use Rattle.mk_local.specs.Calls.{after_call}
 use Rattle.mk_local.specs.Replies.{after_item, after_items, item_reply, replies}
 use Rattle.mk_local.specs.Right.{EndsRight, Fits}
 use Rattle.mk_local.specs.Rows.{IsStepTime}
 use Rattle.mk_local.specs.Simulators.{Simulator, new_simulator}
-use Rattle.mk_local.proofs.InOrder.{right_in_order, one_id, next_id, last_behind, last_reply}
+use Rattle.mk_local.proofs.InOrder.{right_in_order, one_id, next_id, last_reply}
 use Rattle.mk_run_local.specs.Seen.{begun_as, first_of}
-use Rattle.mk_run_local.specs.Made.{first_at, made, kind_reply_of, no_reply}
+use Rattle.mk_run_local.specs.Made.{made, kind_reply_of, no_reply}
 use Rattle.mk_run_local.specs.Laws.{FitsKinds, HasCome, KindsAreRight, RepliesAreKinds}
 use Rattle.mk_run_local.proofs.Numbers.{IsStepping, new_steps, calls_step}
 use Rattle.mk_base.specs.Limits.{latest_end}

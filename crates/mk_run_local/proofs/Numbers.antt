@@ -1,5 +1,5 @@
 -- The numbers of a simulator's entities stay within 64 bits.
-use Rattle.std.proofs.Common.{◌≡◌, ℕ, zero, suc, ◌+◌, ℤ, pos, negsuc, ◌+ℤ◌, ◌≤ℤ◌, int_lt, int_le, Bool, true, false, cond, ◌&&◌, List, [], ◌∷◌, ◌++◌, length, map, fold, replicate, Option, Some, None, Result, Ok, Err, option_and_then, unwrap_or, codes, refl, sym, ap, ◌∙◌, subst, arith, if◌then◌else◌, true≢false}
+use Rattle.std.proofs.Common.{◌≡◌, ℕ, zero, suc, ◌+◌, ℤ, pos, negsuc, ◌+ℤ◌, ◌≤ℤ◌, int_lt, int_le, Bool, true, false, cond, ◌&&◌, List, [], ◌∷◌, ◌++◌, length, map, fold, replicate, Option, Some, None, Result, Ok, Err, option_and_then, unwrap_or, codes, refl, ◌∙◌, arith, if◌then◌else◌}
 use Rattle.std.proofs.lemmas.Int.{ints}
 use Rattle.std.specs.List.{enumerate_from}
 use Rattle.mk_base.specs.declared.json.Json.{Json}
@@ -20,7 +20,7 @@ use Rattle.mk_local.specs.Kinds.{least_step, greatest_step, setting_of}
 use Rattle.mk_local.specs.Rows.{row, clamped, charged, next_time, IsStepOf}
 use Rattle.mk_local.specs.Simulators.{Simulator, new_simulator}
 use Rattle.mk_local.specs.Steps.{turned, entity_step, after_step}
-use Rattle.mk_local.specs.Calls.{whole_from_to, as_step, as_setting, step_in, setting_in, new_entity, init_content, create_content, unless_refused, after_call, least_setting, greatest_setting}
+use Rattle.mk_local.specs.Calls.{whole_from_to, step_in, setting_in, new_entity, init_content, create_content, unless_refused, after_call, least_setting, greatest_setting}
 use Rattle.mk_local.specs.Replies.{after_item}
 use Rattle.mk_run_local.specs.inner.Standing.{IsShortIfThere, IsFitEntity, IsFit}
 use Rattle.mk_base.proofs.Bools.{both_hold}

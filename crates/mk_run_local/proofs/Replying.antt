@@ -1,11 +1,10 @@
 -- A simulator whose numbers are within 64 bits replies with a success whose numbers are in the
 -- range of trees.
-use Rattle.std.proofs.Common.{◌≡◌, ℕ, zero, suc, ◌+◌, ℤ, pos, negsuc, ◌+ℤ◌, ◌≤ℤ◌, ◌==◌, int_lt, int_le, Bool, true, false, cond, ◌&&◌, List, [], ◌∷◌, length, map, filter_map, fold, slice_get, is_some, Option, Some, None, option_map, option_and_then, refl, sym, ap, ◌∙◌, subst, arith, if◌then◌else◌, codes}
+use Rattle.std.proofs.Common.{◌≡◌, ℕ, zero, suc, ◌+◌, ℤ, pos, negsuc, ◌+ℤ◌, ◌≤ℤ◌, ◌==◌, int_lt, int_le, true, false, cond, ◌&&◌, List, [], ◌∷◌, length, map, filter_map, fold, slice_get, is_some, Option, Some, None, option_map, option_and_then, refl, ap, ◌∙◌, subst, arith, codes}
 use Rattle.std.proofs.lemmas.Int.{ints}
 use Rattle.std.specs.List.{enumerate_from, list_all, cons_option}
 use Rattle.std.specs.BTreeMap.{insert_entry}
 use Rattle.std.specs.Ordering.{nat_cmp, match_ordering}
-use Rattle.std.specs.declared.cmp.Ordering.{Ordering}
 use Rattle.std.specs.declared.cmp.Ordering.TheVariants.{Less, Equal, Greater}
 use Rattle.std.specs.Cmp.Lexicographic.{slice_cmp}
 use Rattle.mk_base.specs.declared.json.Json as tree

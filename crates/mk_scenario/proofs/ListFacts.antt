@@ -1,7 +1,7 @@
 -- Facts on lists, texts and options.
-use Rattle.std.proofs.Common.{◌≡◌, ℕ, zero, suc, ◌<◌, arith, true, not, List, [], ◌∷◌, map, length, take, get_or, Option, Some, None, option_map, option_and_then, slice_get, nat_eq, ◌==◌, is_some, IsSome, refl, sym, ap, ◌∙◌, subst}
+use Rattle.std.proofs.Common.{◌≡◌, ℕ, zero, suc, ◌<◌, arith, true, not, List, [], ◌∷◌, map, length, take, Option, Some, None, option_and_then, slice_get, ◌==◌, is_some, IsSome, refl, sym, ap, ◌∙◌, subst}
 use Rattle.std.specs.List.{filter_map, cons_option}
-use Rattle.std.proofs.lemmas.Bool.{and_parts, and_from, eq-eqb, eqb-true}
+use Rattle.std.proofs.lemmas.Bool.{eqb-true}
 use Rattle.std.proofs.lemmas.List.{nil_from_length}
 use Rattle.mk_base.specs.declared.json.Json.{Json}
 use Rattle.mk_base.specs.Lists.{IsIn, Each, same_text, is_among}

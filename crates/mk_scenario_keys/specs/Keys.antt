@@ -1,9 +1,9 @@
 -- What a key's value is, by its kind and range.
-use Rattle.std.specs.Prelude.{ℕ, ℤ, pos, nat_abs, int_le, nat_le, Bool, not, ◌&&◌, List, [], map, length, Option, Some, None, option_map, unwrap_or, Result, Ok, Err, IsTrue, if◌then◌else◌}
+use Rattle.std.specs.Prelude.{ℕ, ℤ, pos, nat_abs, int_le, nat_le, Bool, not, ◌&&◌, List, map, length, Option, Some, None, option_map, Result, Ok, Err, IsTrue, if◌then◌else◌}
 use Rattle.std.specs.Fmt.{decimal, signed_decimal}
-use Rattle.std.specs.List.{find, list_any}
+use Rattle.std.specs.List.{find}
 use Rattle.mk_base.specs.declared.json.Json.{Json}
-use Rattle.mk_base.specs.Lists.{Each, same_text, is_among}
+use Rattle.mk_base.specs.Lists.{Each, is_among}
 use Rattle.mk_base.specs.Trees.{bool_in, whole_in, text_in, items_in, members_in, is_object, is_datum, is_in_range, members_of}
 use Rattle.mk_base.specs.Verdicts.{held, no_text, passed}
 use Rattle.mk_scenario_keys.specs.Spelling.{is_name, port_of}

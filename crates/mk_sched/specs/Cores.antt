@@ -1,11 +1,7 @@
 -- What a core is seen as, what stands of every core, and which messages it takes.
-use Rattle.std.specs.Prelude.{◌≤◌, Bool, true, ◌&&◌, List, length, Option}
-use Rattle.std.specs.List.{list_all}
-use Rattle.mk_base.specs.Trees.{is_in_range}
+use Rattle.std.specs.Prelude.{◌≤◌, List, length, Option}
 use Rattle.mk_plan.specs.declared.Plan.{Plan}
 use Rattle.mk_plan.specs.declared.Entry.{Entry}
-use Rattle.mk_plan.specs.declared.Message.{Message}
-use Rattle.mk_plan.specs.declared.Message.TheVariants.{Ask, Success, Failure}
 use Rattle.mk_plan.specs.Plans.{IsValidPlan}
 use Rattle.mk_plan.specs.Orderly.{IsOrderly}
 use Rattle.mk_plan.specs.Agreement.{Agrees}

@@ -1,7 +1,7 @@
 -- The outlets of each simulator, as connections are added one by one.
 use Rattle.std.proofs.Common.{◌≡◌, ℕ, zero, suc, ◌+◌, ◌<◌, Bool, true, false, ◌&&◌, List, [], ◌∷◌, ◌++◌, length, filter, take, get_or, Option, Some, unwrap_or, slice_get, slice_set, refl, sym, ap, ◌∙◌, subst, inl, inr, arith, add-one, ◌==◌, if◌then◌else◌}
 use Rattle.std.proofs.lemmas.Bool.{eqb-true, eq-eqb}
-use Rattle.mk_base.proofs.Lists.{below_get, set_here, set_else, length_set, some_same}
+use Rattle.mk_base.proofs.Lists.{below_get, set_here, set_else, length_set}
 use Rattle.mk_plan.specs.declared.Plan.{Plan}
 use Rattle.mk_plan.specs.declared.Conn.{Conn}
 use Rattle.mk_plan.specs.Plans.{owner, sim_count}

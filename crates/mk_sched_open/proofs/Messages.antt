@@ -1,6 +1,6 @@
 -- What a message does to a view, by what is open where it comes from; and the time of a step that
 -- is asked for.
-use Rattle.std.proofs.Common.{◌≡◌, ℕ, ◌≤◌, pos, ◌≤ℤ◌, true, List, length, Option, Some, None, refl, sym, ap, ◌∙◌, arith, int_lt, nat_le}
+use Rattle.std.proofs.Common.{◌≡◌, ℕ, ◌≤◌, ◌≤ℤ◌, true, List, length, Option, Some, None, refl, sym, ap, ◌∙◌, arith, int_lt, nat_le}
 use Rattle.std.proofs.lemmas.Int.{ints}
 use Rattle.std.proofs.lemmas.Bool.{leb-true}
 use Rattle.mk_base.specs.declared.SimNo.{SimNo}

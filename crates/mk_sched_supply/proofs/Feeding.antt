@@ -1,7 +1,7 @@
 -- The feeds of simulators, as connections are added one by one.
-use Rattle.std.proofs.Common.{◌≡◌, ℕ, zero, suc, ◌+◌, Bool, true, false, ◌&&◌, List, [], ◌∷◌, ◌++◌, length, map, take, slice_get, slice_set, Some, option_map, unwrap_or, refl, sym, ap, ◌∙◌, subst, ◌⊎◌, inl, inr, add-one, ◌==◌, if◌then◌else◌}
+use Rattle.std.proofs.Common.{◌≡◌, ℕ, zero, suc, ◌+◌, Bool, true, false, ◌&&◌, List, [], ◌∷◌, ◌++◌, length, map, take, slice_get, slice_set, Some, option_map, unwrap_or, sym, ap, ◌∙◌, subst, inl, inr, add-one, ◌==◌, if◌then◌else◌}
 use Rattle.std.proofs.lemmas.List.{length-map}
-use Rattle.std.proofs.lemmas.Bool.{eqb-true, eq-eqb}
+use Rattle.std.proofs.lemmas.Bool.{eq-eqb}
 use Rattle.mk_base.specs.Lists.{IsIn}
 use Rattle.mk_base.proofs.Lists.{append_nil, at_in, filter_append, in_either, length_set, map_append, set_else, set_here, some_same}
 use Rattle.mk_plan.specs.declared.Plan.{Plan}

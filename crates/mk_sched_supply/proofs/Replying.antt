@@ -1,5 +1,5 @@
 -- What a request is answered, and the stock after its values are given.
-use Rattle.std.proofs.Common.{◌≡◌, ℕ, ◌<◌, Bool, true, false, cond, not, List, [], ◌∷◌, ◌++◌, length, filter, Option, Some, None, option_map, unwrap_or, slice_get, pos, refl, sym, ap, ◌∙◌, subst, true≢false, ◌==◌, append_assoc, arith, Result, Ok, Err}
+use Rattle.std.proofs.Common.{◌≡◌, ℕ, ◌<◌, Bool, true, false, cond, not, List, [], ◌∷◌, ◌++◌, length, filter, Option, Some, None, option_map, unwrap_or, slice_get, pos, refl, sym, ap, ◌∙◌, subst, true≢false, ◌==◌, append_assoc, Result, Ok, Err}
 use Rattle.std.specs.Prelude.{IfOk}
 use Rattle.mk_base.specs.declared.SimNo.{SimNo}
 use Rattle.mk_base.specs.declared.json.Json.{Json}

@@ -1,5 +1,5 @@
 -- What the outputs of a turn that ends make of a stock.
-use Rattle.std.proofs.Common.{◌≡◌, ℕ, zero, suc, ◌+◌, ◌-◌, ◌^◌, ◌<◌, ◌≤◌, min, pos, Bool, true, false, List, [], ◌∷◌, ◌++◌, length, map, take, slice_get, nat_le, Option, Some, None, option_map, unwrap_or, refl, sym, ap, ◌∙◌, subst, arith, true≢false, Bor}
+use Rattle.std.proofs.Common.{◌≡◌, ℕ, ◌+◌, ◌-◌, ◌^◌, ◌<◌, ◌≤◌, min, pos, Bool, true, false, List, ◌++◌, length, map, take, slice_get, nat_le, Option, Some, None, option_map, unwrap_or, refl, sym, ap, ◌∙◌, subst, arith, true≢false, Bor}
 use Rattle.std.specs.Prelude.{IfSome}
 use Rattle.mk_base.specs.declared.SimNo.{SimNo}
 use Rattle.mk_base.specs.declared.json.Json.{Json}
@@ -8,7 +8,7 @@ use Rattle.mk_base.specs.Data.{IsValueText}
 use Rattle.mk_base.specs.Texts.{text_of}
 use Rattle.mk_base.specs.Tiers.{moment}
 use Rattle.mk_base.specs.Trees.{is_datum, is_in_range, is_whole, nesting, value_depth}
-use Rattle.mk_base.proofs.Lists.{at_in, get_is, map_in, some_same}
+use Rattle.mk_base.proofs.Lists.{at_in, get_is, map_in}
 use Rattle.mk_base.proofs.AtPlaces.{map_at}
 use Rattle.mk_plan.specs.declared.Plan.{Plan}
 use Rattle.mk_plan.specs.declared.Entry.{Entry}

@@ -1,5 +1,5 @@
 -- What is wanted of a simulator: in order, each once, and found by a search.
-use Rattle.std.proofs.Common.{◌≡◌, ℕ, zero, suc, ◌<◌, ◌≤◌, Bool, true, false, ◌&&◌, nat_eq, List, [], ◌∷◌, ◌++◌, length, flat_map, get_or, slice_get, Some, refl, sym, ap, ◌∙◌, subst, ◌⊎◌, inl, inr, ◌+◌, arith, ◌==◌, if◌then◌else◌}
+use Rattle.std.proofs.Common.{◌≡◌, ℕ, zero, suc, ◌<◌, ◌≤◌, Bool, true, false, ◌&&◌, List, [], ◌∷◌, ◌++◌, length, flat_map, get_or, slice_get, Some, refl, sym, ap, ◌∙◌, subst, ◌⊎◌, inl, inr, ◌+◌, arith, ◌==◌, if◌then◌else◌}
 use Rattle.std.specs.List.{AllByRecursion, HoldsAt}
 use Rattle.std.specs.List.Sorted.{IsStrictlySortedBy, IsPartitionPoint, IsNonDecreasingBy}
 use Rattle.std.specs.Ordering.{ordering_index, ordering_reverse, is_lt}
@@ -17,9 +17,9 @@ use Rattle.mk_plan.specs.Asks.{gives_attr}
 use Rattle.mk_plan_judge.proofs.Putting.{names_total}
 use Rattle.mk_plan_judge.proofs.Puts.{all_has}
 use Rattle.mk_plan_judge.proofs.Taken.{same_names, taken_is_wanted}
-use Rattle.std.proofs.lemmas.Bool.{eqb-true, eq-eqb}
+use Rattle.std.proofs.lemmas.Bool.{eqb-true}
 use Rattle.mk_base.proofs.Items.{get_default, same_text_self}
-use Rattle.mk_base.proofs.Bools.{and_holds, both_hold}
+use Rattle.mk_base.proofs.Bools.{both_hold}
 use Rattle.mk_base.proofs.Guessing.{text_is}
 
 -- ---- equal names

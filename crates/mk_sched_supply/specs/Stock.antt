@@ -2,9 +2,8 @@
 use Rattle.std.specs.Prelude.{◌≡◌, ℕ, ◌<◌, List, length, map, Some, slice_get}
 use Rattle.mk_plan.specs.declared.Plan.{Plan}
 use Rattle.mk_plan.specs.declared.Conn.{Conn}
-use Rattle.mk_plan.specs.declared.Want.{Want}
 use Rattle.mk_plan.specs.declared.Entry.{Entry}
-use Rattle.mk_plan.specs.Plans.{IsValidPlan, sim_count, eid_of}
+use Rattle.mk_plan.specs.Plans.{IsValidPlan, sim_count}
 use Rattle.mk_plan.specs.Turns.{wanted, want_of}
 use Rattle.mk_plan.specs.Deliveries.{Supply, triggering_from}
 use Rattle.mk_plan.specs.Journals.{View, view}

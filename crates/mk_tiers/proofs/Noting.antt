@@ -1,5 +1,5 @@
 -- Who may step from another time on, as starts change.
-use Rattle.std.proofs.Common.{◌≡◌, ℕ, ◌<◌, true, false, ◌||◌, true≢false, List, length, slice_index, Bool, Option, Some, None, refl, ap, ◌∙◌, subst, arith}
+use Rattle.std.proofs.Common.{◌≡◌, ℕ, ◌<◌, List, length, slice_index, Bool, Option, Some, None, refl, ap, ◌∙◌, subst, arith}
 use Rattle.mk_base.specs.declared.tier.Tier.{Tier}
 use Rattle.mk_base.proofs.TierOrder.{up_to_antisym}
 use Rattle.mk_plan.specs.declared.Plan.{Plan}

@@ -1,5 +1,5 @@
 -- For proofs alone. The values that a request sets, as they are gathered.
-use Rattle.std.specs.Prelude.{ℕ, Bool, List, [], map, flat_map, unwrap_or}
+use Rattle.std.specs.Prelude.{ℕ, Bool, List, map, flat_map, unwrap_or}
 use Rattle.mk_base.specs.declared.json.Json.{Json}
 use Rattle.mk_base.specs.Texts.{text_of}
 use Rattle.mk_base.specs.Trees.{members_of}

@@ -1,10 +1,9 @@
 -- For proofs alone. How a stock comes about and takes outputs.
-use Rattle.std.specs.Prelude.{◌≡◌, ℕ, Bool, false, ◌&&◌, List, [], map, filter, take, length, Option, Some, None, is_some, option_map, unwrap_or, slice_get, ◌==◌}
+use Rattle.std.specs.Prelude.{◌≡◌, ℕ, Bool, false, List, [], map, take, length, Option, Some, None, is_some, option_map, unwrap_or, slice_get}
 use Rattle.mk_base.specs.declared.json.Json.{Json}
 use Rattle.mk_base.specs.declared.tier.Tier.{Tier}
 use Rattle.mk_base.specs.Texts.{text_of}
 use Rattle.mk_plan.specs.declared.Plan.{Plan}
-use Rattle.mk_plan.specs.declared.Conn.{Conn}
 use Rattle.mk_plan.specs.declared.Want.{Want}
 use Rattle.mk_plan.specs.Plans.{owner, sim_count, eid_of}
 use Rattle.mk_plan.specs.Turns.{wanted}

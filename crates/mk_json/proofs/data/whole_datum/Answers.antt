@@ -1,7 +1,6 @@
 -- Answers to the goals of `data::whole_datum` that the prover leaves.
 use Rattle.std.proofs.Common.{◌≡◌, sym, refl, arith, rules}
 use Rattle.std.specs.Fmt.{signed_decimal}
-use Rattle.mk_base.specs.Data.{IsDatumText}
 use Rattle.mk_base.specs.declared.json.Json as tree
 use Rattle.mk_base.proofs.OnTrees.{trees_compute}
 use Rattle.mk_json.proofs.data.whole_datum.Goals as goal

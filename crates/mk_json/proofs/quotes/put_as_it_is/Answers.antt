@@ -1,5 +1,5 @@
 -- Answers to the goals of `quotes::put_as_it_is` that the prover leaves.
-use Rattle.std.proofs.Common.{rules, ◌≡◌, true, List, ℕ, [], ◌∷◌, ◌++◌, is_ok, if◌then◌else◌, ap, ◌∙◌}
+use Rattle.std.proofs.Common.{rules, ◌≡◌, true, [], ◌∷◌, ◌++◌, is_ok, if◌then◌else◌, ap, ◌∙◌}
 use Rattle.mk_json.proofs.Quoting.{within_quotes}
 use Rattle.mk_json.proofs.quotes.put_as_it_is.Goals as goal
 

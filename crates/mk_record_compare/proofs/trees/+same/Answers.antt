@@ -1,5 +1,5 @@
 -- Answers to the goals of `trees::+same` that the prover leaves.
-use Rattle.std.proofs.Common.{◌≡◌, ℕ, ◌+◌, ◌<◌, length, slice_get, get_or, Some, ap, sym, ◌∙◌, arith}
+use Rattle.std.proofs.Common.{◌≡◌, ◌+◌, length, slice_get, get_or, Some, ap, sym, ◌∙◌, arith}
 use Rattle.std.specs.Map.{keys_of, values_of}
 use Rattle.mk_plan_same.proofs.Pairs.{next_same}
 use Rattle.mk_record_compare.proofs.Pairs.{member_is}

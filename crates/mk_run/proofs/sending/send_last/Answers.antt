@@ -1,5 +1,5 @@
 -- Answers to the goals of `sending::send_last` that the prover leaves.
-use Rattle.std.proofs.Common.{◌≡◌, ℕ, List, Some, length, sym, ap, ◌∙◌, arith}
+use Rattle.std.proofs.Common.{List, length, sym, ap, ◌∙◌}
 use Rattle.mk_plan.specs.declared.Entry.{Entry}
 use Rattle.mk_run.proofs.LastItem.{last_sent, last_taken, last_unsent, some_entry}
 use Rattle.mk_run.proofs.sending.send_last.Goals as goal

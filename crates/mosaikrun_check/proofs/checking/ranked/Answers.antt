@@ -1,5 +1,5 @@
 -- Answers to the goals of `checking::ranked` that the prover leaves.
-use Rattle.std.proofs.Common.{◌≡◌, ℕ, List, ◌∙◌, ap, inl, inr, refl, subst}
+use Rattle.std.proofs.Common.{◌≡◌, ℕ, List, ◌∙◌, ap, inl, inr, subst}
 use Rattle.mk_cycles.specs.Cycles.{IsCycle}
 use Rattle.mk_cycles.specs.Edges.{has_edge}
 use Rattle.mk_cycles.specs.Outcomes.{CycleOf, numbers}

@@ -1,6 +1,4 @@
 -- Answers to the goals of `within::Within::answer_call` that the prover leaves.
-use Rattle.std.proofs.Common.{◌≡◌, Some}
-use Rattle.std.specs.List.{slice_get}
 use Rattle.mk_run_local.proofs.Placing.{called, called_of, called_stands, read_there}
 use Rattle.mk_run_local.proofs.within.Within.answer_call.Goals as goal
 

@@ -1,5 +1,5 @@
 -- Answers to the goals of `within::Within::answer_item` that the prover leaves.
-use Rattle.std.proofs.Common.{◌≡◌, ap, map, refl}
+use Rattle.std.proofs.Common.{ap, map, refl}
 use Rattle.mk_run_local.specs.Seen.{arrival}
 use Rattle.mk_run_local.proofs.Placing.{answered, answered_of, answered_stands, read_there}
 use Rattle.mk_run_local.proofs.within.Within.answer_item.Goals as goal

@@ -1,5 +1,5 @@
 -- Answers to the goals of `bits::Bits::below` that the prover leaves.
-use Rattle.std.proofs.Common.{◌≡◌, ℕ, ◌<◌, ◌+◌, Bool, true, false, ◌||◌, nat_lt, sym, ap, ◌∙◌, arith, inl, inr}
+use Rattle.std.proofs.Common.{◌+◌, Bool, ◌||◌, sym, ap, ◌∙◌, arith, inl, inr}
 use Rattle.std.proofs.lemmas.Bool.{cases_eq, cases_lt, eq-eqb, ne_eqb, lt-ltb, le-ltb}
 use Rattle.mk_tiers.specs.Sets.{has}
 use Rattle.mk_tiers.proofs.bits.Bits.below.Goals as goal
