@@ -4,8 +4,9 @@ ghost use Rattle.mk_pace_held.specs.declared.held.Held.{Held};
 ghost use Rattle.mk_pace_held.specs.declared.held.First.{First};
 ghost use Rattle.mk_pace_held.specs.Firsts.{IsChanged, IsFirst, first_at};
 
-use crate::held::{First, Held, earlier_of};
+use crate::held::{First, Held};
 use crate::queue::Queue;
+use crate::tree::Tree;
 use mk_base::{Mem, SimNo};
 use std::alloc::Global;
 use std::marker::Model;
@@ -14,17 +15,20 @@ use std::marker::Model;
 #[derive(Drop)]
 pub struct Holds {
     queues: Vec<Queue>,
+    // at the leaf of each simulator the Step that its items begin with, if they do
+    firsts: Tree,
 }
 
 impl Model for Holds {
-    ghost use Rattle.std.specs.Prelude.{List, length, ◌<◌, ◌^◌};
+    ghost use Rattle.std.specs.Prelude.{List};
     ghost use Rattle.mk_pace_held.specs.declared.held.Held.{Held};
+    ghost use Rattle.mk_pace_held.specs.inner.Minima.{AreFirsts};
 
     ghost Value = { List (List Held) };
 
     ghost view = { λ a. a.queues.items };
 
-    ghost invariant = { λ a. length a.queues.items < 2 ^ 32 };
+    ghost invariant = { λ a. AreFirsts a.firsts a.queues.items };
 }
 
 // The Step that a simulator's items begin with, if they do.
@@ -49,14 +53,8 @@ impl Holds {
         for _sim in 0..sims {
             queues.push(Queue::new(alloc))?;
         }
-        Ok(Holds { queues })
-    }
-
-    // How many simulators there are.
-    fn count(&self) -> usize
-        ensures { result ≡ length self.now }
-    {
-        self.queues.len()
+        let firsts = Tree::new(alloc, sims)?;
+        Ok(Holds { queues, firsts })
     }
 
     /// Whether something waits of a simulator.
@@ -84,7 +82,13 @@ impl Holds {
             × IsChanged sim.0 q (q ++ held ∷ []) self.old self.new) }
         ensures err { OnErr result (self.new ≡ self.old) }
     {
-        self.queues[sim.0 as usize].push(held)
+        let at = sim.0 as usize;
+        let was_empty = self.queues[at].front().is_none();
+        self.queues[at].push(held)?;
+        if was_empty {
+            self.firsts.set(at, first_of(sim, &self.queues[at]));
+        }
+        Ok(())
     }
 
     /// The Step that is to be sent next: of those before which nothing waits of their simulators, the one with the
@@ -94,11 +98,7 @@ impl Holds {
         ensures none { result ≡ None → (i : ℕ) (q : List Held) → slice_get self.now i ≡ Some q
             → first_at (record { 0 = i }) q ≡ None }
     {
-        let mut best: Option<First> = None;
-        for i in 0..self.count() {
-            best = earlier_of(best, first_of(SimNo(i as u32), &self.queues[i]));
-        }
-        best
+        self.firsts.root()
     }
 
     /// Takes the first item that waits of a simulator; `None` exactly where nothing does.
@@ -108,6 +108,9 @@ impl Holds {
             × (self.new ≡ self.old)) (λ h. (q : List Held)
             × IsChanged sim.0 (h ∷ q) q self.old self.new) }
     {
-        self.queues[sim.0 as usize].pop()
+        let at = sim.0 as usize;
+        let taken = self.queues[at].pop();
+        self.firsts.set(at, first_of(sim, &self.queues[at]));
+        taken
     }
 }

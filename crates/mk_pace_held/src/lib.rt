@@ -4,6 +4,7 @@
 mod held;
 mod holds;
 mod queue;
+mod tree;
 
 pub use held::{Due, First, Held};
 pub use holds::Holds;

@@ -5,6 +5,7 @@ use Rattle.mk_base.specs.declared.LinkNo.{LinkNo}
 use Rattle.mk_base.specs.Lists.{IsIn}
 use Rattle.mk_base.proofs.Lists.{some_same, in_front, in_back, some_passes}
 use Rattle.mk_base.specs.Links.{same_link, without}
+use Rattle.mk_base.proofs.Links.{same_number}
 use Rattle.mk_poll.specs.Turning.{Turning}
 use Rattle.mk_poll.specs.Links.{lifted, made_parked, made_ready, IsAdded, TakeOf}
 use Rattle.mk_poll.proofs.Lifting.{in_lifted}
