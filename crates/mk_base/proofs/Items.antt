@@ -1,5 +1,5 @@
 -- Items of lists, by their places, and what is found or not.
-use Rattle.std.proofs.Common.{All, Err, List, None, Ok, Option, Result, Some, [], ap, append_assoc, arith, fold, get_or, inl, inr, length, map, nat_eq, option_map, refl, slice_get, subst, suc, sym, take, true, zero, ℕ, ◌++◌, ◌+◌, ◌<◌, ◌∙◌, ◌∷◌, ◌≡◌, Bool, cond, false, ◌≤◌, filter, ◌||◌}
+use Rattle.std.proofs.Common.{All, Err, List, None, Ok, Option, Result, Some, [], ap, append_assoc, arith, fold, get_or, inl, inr, length, map, nat_eq, option_map, refl, replicate, slice_get, subst, suc, sym, take, true, zero, ℕ, ◌++◌, ◌+◌, ◌<◌, ◌∙◌, ◌∷◌, ◌≡◌, Bool, cond, false, ◌≤◌, filter, ◌||◌}
 use Rattle.mk_base.proofs.Lists.{in_back, none_some, some_same, append_nil}
 use Rattle.mk_base.specs.Lists.{BeginsWith, Each, IsIn, same_text}
 use Rattle.mk_base.specs.declared.LinkNo.{LinkNo}
@@ -175,3 +175,8 @@ filter_same p q (x ∷ xs) h = ap (λ b. cond b (x ∷ filter p xs) (filter p xs
 pub any_same : {X : Type 0} (p q : X → Bool) → ((x : X) → p x ≡ q x) → (xs : List X) → list_any p xs ≡ list_any q xs
 any_same p q same [] = refl
 any_same p q same (x ∷ xs) = λ i. same x i || any_same p q same xs i
+
+pub get_replicate : {X : Type 0} (n k : ℕ) (x : X) → k < n → slice_get (replicate n x) k ≡ Some x
+get_replicate zero k x below = absurd (omega arith)
+get_replicate (suc n) zero x below = refl
+get_replicate (suc n) (suc k) x below = get_replicate n k x (omega arith)

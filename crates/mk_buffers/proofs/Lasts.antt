@@ -76,9 +76,5 @@ pub found_back : (test : Timed → Bool) (ts : List Timed) (n : ℕ) (t : Timed)
 found_back test ts n t there is h = ap (λ (l : List Timed). last_of (filter test l)) (take_more ts n t there ∙ ap (λ (w : Timed). take n ts ++ w ∷ []) (sym is))
     ∙ last_filtered test (take n ts) (t ∷ []) ∙ ap (λ (c : Bool). or_last (last_of (cond c (t ∷ []) [])) (last_of (filter test (take n ts)))) h
 
-pub passed_back : (test : Timed → Bool) (ts : List Timed) (n : ℕ) (t : Timed) → n < length ts → t ≡ get_or ts n t → test t ≡ false → last_of (filter test (take (n + 1) ts)) ≡ last_of (filter test (take n ts))
-passed_back test ts n t there is h = ap (λ (l : List Timed). last_of (filter test l)) (take_more ts n t there ∙ ap (λ (w : Timed). take n ts ++ w ∷ []) (sym is))
-    ∙ last_filtered test (take n ts) (t ∷ []) ∙ ap (λ (c : Bool). or_last (last_of (cond c (t ∷ []) [])) (last_of (filter test (take n ts)))) h
-
 pub all_back : (test : Timed → Bool) (ts : List Timed) (n : ℕ) → n ≡ length ts → last_of (filter test ts) ≡ last_of (filter test (take n ts))
 all_back test ts n is = ap (λ (l : List Timed). last_of (filter test l)) (sym (take_all n ts (omega arith)))

@@ -28,16 +28,6 @@ skipped marks asks n (Some i) best off = record {
   ];
 }
 
-pub first_best : (marks : List Tier) (asks : List Bool) (n : ℕ) → slice_get asks n ≡ Some true → IsNoneOf asks n → IsLeastOf marks asks (n + 1) n
-first_best marks asks n on none = record {
-  asking = on;
-  below = omega arith;
-  least = λ s m k h asking is own. elim (below_or_same s n h) [
-    | inl same ↦ subst (IsUpTo k) (some_same (sym own ∙ ap (slice_get marks) (sym same) ∙ is)) (up_to_self k)
-    | inr less ↦ absurd (true≢false (some_same (sym asking ∙ none s less)))
-  ];
-}
-
 pub next_best : (marks : List Tier) (asks : List Bool) (n i : ℕ) (m k : Tier) → slice_get asks n ≡ Some true → IsLeastOf marks asks n i → slice_get marks n ≡ Some m → slice_get marks i ≡ Some k → up_to m k ≡ true → IsLeastOf marks asks (n + 1) n
 next_best marks asks n i m k on best here there less = record {
   asking = on;

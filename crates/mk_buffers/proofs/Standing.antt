@@ -238,9 +238,6 @@ value_found P b S e attr x i o s key is from =
     let own = key_is e attr o (subst (λ (p : Outlet). is_key e attr p ≡ true) same there.2) in
     ap (option_map (λ (t : Timed). t.value)) ((s.outputs i o at).made x from ∙ (λ k. latest (by x (S.outputs (own.0 k) (own.1 k)))))
 
-pub none_lacks : (P : Plan) (b : Buffers) (S : Supply) (e : ℕ) (attr : List ℕ) → StandFor P b S → LacksKey b e attr → gives_attr P e attr ≡ true → ⊥
-none_lacks P b S e attr s lacks given = let f = s.of_plan.found e attr given in true≢false (sym f.key ∙ lacks f.home f.at_home f.place f.first f.end)
-
 -- one more output
 module _ (P : Plan) (b n : Buffers) (S : Supply) (e : ℕ) (attr : List ℕ) (i : ℕ) (t : Timed) (s : StandFor P b S) (key : has_key b.outlets.items e attr i ≡ true) (text : IsValueText t.value) (d : Delivers b n i t) where
   at_it : slice_get n.outlets.items i ≡ Some d.after
@@ -398,16 +395,6 @@ value_text S texts x e attr v is = go (latest (by x (S.outputs e attr))) refl is
     go : (o : Option Timed) → latest (by x (S.outputs e attr)) ≡ o → Some v ≡ option_map (λ (t : Timed). t.value) o → IsValueText v
     go None k is = absurd (none_some (sym is))
     go (Some t) k is = subst IsValueText (sym (some_same is)) (texts.outputs e attr t (in_filter (λ t. up_to t.at x) t (S.outputs e attr) (latest_in (by x (S.outputs e attr)) t k)).0)
-
--- marks
-pub marks_raised : (b n : Buffers) (s : ℕ) (x : Tier) (rose : Bool) → s < length b.marks.marks → Raised s x rose b.marks n.marks → HasRaised s x b n
-marks_raised b n s x rose low r =
-    let m = below_get b.marks.marks s low in
-    let old : mark_of b s ≡ m.0 = ap (λ (o : Option Tier). unwrap_or o (moment (pos 0))) m.1 in
-    record {
-      here = ap (λ (o : Option Tier). unwrap_or o (moment (pos 0))) (r.here m.0 m.1) ∙ ap (λ (t : Tier). greater t x) (sym old);
-      others = λ q apart. ap (λ (o : Option Tier). unwrap_or o (moment (pos 0))) (r.others q apart);
-    }
 
 pub has_raised : (b n : Buffers) (s : ℕ) (x : Tier) (rose : Bool) → s < length b.marks.marks → Raised s x rose b.marks n.marks → HasRaised s x b n
 has_raised b n s x rose low r = let m = below_get b.marks.marks s low in record {

@@ -15,11 +15,6 @@ use Rattle.mk_buffers.specs.Bounds.{HasShape}
 use Rattle.mk_buffers.specs.Standing.{IsSwept, next_of}
 use Rattle.mk_buffers_log.proofs.Places.{below_or_same}
 
-get_past : {X : Type 0} (xs : List X) (i : ℕ) → length xs ≤ i → slice_get xs i ≡ None
-get_past [] i h = refl
-get_past (x ∷ xs) zero h = absurd (omega arith)
-get_past (x ∷ xs) (suc i) h = get_past xs i (omega arith)
-
 pub swept_same : (b n : Buffers) (mark : Tier) (k : ℕ) → n.outlets.items ≡ b.outlets.items → n.feeds ≡ b.feeds → n.next_marks ≡ b.next_marks → n.until ≡ b.until → IsSwept mark k b → IsSwept mark k n
 swept_same b n mark k outs feeds next ends s = record {
   few = λ i o at low. subst (λ (u : ℤ). IsFew o.vias.items u mark o.log) (sym ends) (s.few i o (back i o at) low);

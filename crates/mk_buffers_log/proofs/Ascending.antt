@@ -204,10 +204,6 @@ pub as_made : (ts : List Timed) → arrivals Plain None ts ≡ ts
 as_made [] = refl
 as_made (t ∷ ts) = ap (λ (l : List Timed). t ∷ l) (as_made ts)
 
-pub option_same : (o : Option Timed) → option_map (arrival Plain) o ≡ o
-option_same None = refl
-option_same (Some t) = refl
-
 -- one more among ascending outputs
 all_from_insert : (x : Tier) (ts : List Timed) (p : ℕ) (t : Timed) → AllFrom x ts → IsUpTo x t.at → AllFrom x (insert ts p t)
 all_from_insert x [] p t all h = elim p as (λ n. AllFrom x (insert [] n t)) [ zero ↦ (h, tt) | suc n ↦ (h, tt) ]

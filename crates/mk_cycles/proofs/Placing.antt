@@ -19,10 +19,6 @@ order_push before n order s ordered next r t is =
           subst (λ (placed : List ℕ). IsNext before n placed t) front (subst (λ (k : ℕ). IsNext before n order k) (sym same) next)
     ]
 
--- nothing precedes the first place
-pub order_none : (before : ℕ → ℕ → Bool) (n : ℕ) (r s : ℕ) → slice_get {X = ℕ} [] r ≡ Some s → IsNext before n (take r []) s
-order_none before n r s is = absurd (none-some s is)
-
 -- a place that is written
 pub get_set_same : {X : Type 0} (xs : List X) (i : ℕ) (y : X) → i < length xs → slice_get (set xs i y) i ≡ Some y
 get_set_same [] i y under = absurd (omega arith)

@@ -66,12 +66,6 @@ number_is sim es eid = number_from sim eid 0 es ∙ from_zero (entity_number es 
 
 -- ---- names by the place of their simulator
 
-pub no_more_names : (names : List (List (List ℕ × ℕ))) (s : ℕ) → names_at (names ++ [] ∷ []) s ≡ names_at names s
-no_more_names [] zero = refl
-no_more_names [] (suc s) = refl
-no_more_names (n ∷ names) zero = refl
-no_more_names (n ∷ names) (suc s) = no_more_names names s
-
 pub names_there : (names : List (List (List ℕ × ℕ))) (s : ℕ) (x : List (List ℕ × ℕ)) → s < length names → x ≡ get_or names s x → names_at names s ≡ x
 names_there [] s x below is = absurd (omega arith)
 names_there (n ∷ names) zero x below is = sym is

@@ -49,16 +49,6 @@ pub cut_none : (cs : List Chunk) → cut 0 cs ≡ cs
 cut_none [] = refl
 cut_none (c ∷ cs) = refl
 
--- the chunks of a link from a place at which one stands
-pub chunks_here : (link : LinkNo) (chunks : List Chunk) (i : ℕ) (d : Chunk) → i < length chunks → same_link (get_or chunks i d).link link ≡ true → chunks_of link (drop i chunks) ≡ get_or chunks i d ∷ chunks_of link (drop (i + 1) chunks)
-chunks_here link chunks i d within is =
-    ap (chunks_of link) (drop_more chunks i d within) ∙ ap (λ (b : Bool). cond b (get_or chunks i d ∷ chunks_of link (drop (i + 1) chunks)) (chunks_of link (drop (i + 1) chunks))) is
-
--- the chunks of a link from a place at which none stands
-pub chunks_else : (link : LinkNo) (chunks : List Chunk) (i : ℕ) (d : Chunk) → i < length chunks → same_link (get_or chunks i d).link link ≡ false → chunks_of link (drop i chunks) ≡ chunks_of link (drop (i + 1) chunks)
-chunks_else link chunks i d within is =
-    ap (chunks_of link) (drop_more chunks i d within) ∙ ap (λ (b : Bool). cond b (get_or chunks i d ∷ chunks_of link (drop (i + 1) chunks)) (chunks_of link (drop (i + 1) chunks))) is
-
 -- what is seen of links that are kept so
 abbrev pub shown : List Chunk → List Cursor → List LinkNo → Wiring
 shown chunks cursors links = record { started = length cursors; links = links; chunks = chunks; lines = lines_from chunks 0 cursors }
@@ -135,32 +125,3 @@ too_early w c at said is early =
 pub in_time : (w : Wiring) (c : Chunk) (at said : ℕ) → said ≡ said_to w c.on → c.after ≤ said → Some (drop at c.bytes) ≡ given w (without_front at c)
 in_time w c at said is late =
     ap (λ (b : Bool). if b then None else Some (drop at c.bytes)) (sym (le-ltb (said_to w c.on) c.after (omega (arith, is, late))))
-
--- a link of which no chunk is left, after some bytes
-pub passed_none : (chunks : List Chunk) (link : LinkNo) (c : Cursor) (n : ℕ) → chunks_of link (drop c.next chunks) ≡ [] → line_of chunks link.0 c ≡ heard n (line_of chunks link.0 c)
-passed_none chunks link c n none =
-    ap (λ cs. record { rest = cut c.at cs; said = c.said; held_up = c.held_up }) none ∙ ap (λ cs. record { rest = past n (cut c.at cs); said = c.said; held_up = c.held_up }) (sym none)
-
--- a link of which the next chunk has come to its end
-pub passed_whole : (chunks : List Chunk) (link : LinkNo) (c : Cursor) (n place : ℕ) (chunk : Chunk) → chunks_of link (drop c.next chunks) ≡ chunk ∷ chunks_of link (drop (place + 1) chunks) → length chunk.bytes ≤ c.at + n
-    → line_of chunks link.0 (record { next = place + 1; at = 0; said = c.said; held_up = c.held_up }) ≡ heard n (line_of chunks link.0 c)
-passed_whole chunks link c n place chunk next whole =
-    let more = chunks_of link (drop (place + 1) chunks) in
-    let line : List Chunk → Line = λ cs. record { rest = cs; said = c.said; held_up = c.held_up } in
-    let past_it : nat_lt n (length (drop c.at chunk.bytes)) ≡ false = le-ltb n (length (drop c.at chunk.bytes)) (omega (arith, whole, length-drop c.at chunk.bytes)) in
-    ap line (cut_none more)
-    ∙ ap (λ (b : Bool). line (if b then without_front n (without_front c.at chunk) ∷ more else more)) (sym past_it)
-    ∙ ap (λ cs. line (past n (cut c.at cs))) (sym next)
-
--- a link of which the next chunk has come in part
-pub passed_part : (chunks : List Chunk) (link : LinkNo) (c : Cursor) (n at place : ℕ) (chunk : Chunk) → chunks_of link (drop c.next chunks) ≡ chunk ∷ chunks_of link (drop (place + 1) chunks) → at ≡ c.at + n → at < length chunk.bytes
-    → line_of chunks link.0 (record { next = c.next; at = at; said = c.said; held_up = c.held_up }) ≡ heard n (line_of chunks link.0 c)
-passed_part chunks link c n at place chunk next is part =
-    let more = chunks_of link (drop (place + 1) chunks) in
-    let line : List Chunk → Line = λ cs. record { rest = cs; said = c.said; held_up = c.held_up } in
-    let left : nat_lt n (length (drop c.at chunk.bytes)) ≡ true = lt-ltb n (length (drop c.at chunk.bytes)) (omega (arith, is, part, length-drop c.at chunk.bytes)) in
-    ap (λ cs. line (cut at cs)) next
-    ∙ ap (λ k. line (without_front k chunk ∷ more)) is
-    ∙ ap (λ bytes. line ((record { link = chunk.link; on = chunk.on; after = chunk.after; bytes = bytes }) ∷ more)) (sym (drop-drop n c.at chunk.bytes))
-    ∙ ap (λ (b : Bool). line (if b then without_front n (without_front c.at chunk) ∷ more else more)) (sym left)
-    ∙ ap (λ cs. line (past n (cut c.at cs))) (sym next)

@@ -40,8 +40,7 @@ abbrev pub advanced : ℕ → Telling → Telling
 advanced ms t = with_clock (min (t.clock + ms) last_moment) t
 
 -- a link: the chunks that are still to come on it, the first without those of its bytes that have
--- come; how many bytes
--- were said on it; and whether the last write on it answered NotYet
+-- come; how many bytes were said on it; and whether the last write on it answered NotYet
 pub record Line : Type 0 where
   pub rest : List Chunk
   pub said : ℕ

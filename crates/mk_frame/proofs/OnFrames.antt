@@ -88,14 +88,6 @@ unfinished_not_whole held payload rest (inr (other, fits, (more, some, begins)))
     let same = same_frame payload other (rest ++ more) [] allowed fits (sym (append_assoc (frame_of payload) rest more) ∙ ap (λ h. h ++ more) (sym is) ∙ sym begins ∙ sym (append-nil (frame_of other))) in
     omega (arith, ap length same.1, length-append rest more)
 
--- unfinished bytes have no header that is too long
-pub unfinished_not_long : (held : List ℕ) (n : ℕ) → IsUnfinished held → IsTooLong n held → ⊥
-unfinished_not_long held n (inl short) (four, reads, long) = omega arith
-unfinished_not_long held n (inr (other, fits, (more, some, begins))) (four, reads, long) =
-    let read : big_number 4 held ≡ length other =
-    sym (big_from-append 4 held more four) ∙ ap (big_number 4) (sym begins ∙ sym (append-nil (frame_of other))) ∙ read-frame_of other [] fits in
-    omega (arith, reads, read)
-
 -- bytes that begin with a frame have no header that is too long
 pub whole_not_long : (held payload rest : List ℕ) (n : ℕ) → BeginsWithFrame held payload rest → IsTooLong n held → ⊥
 whole_not_long held payload rest n (allowed, is) (four, reads, long) =

@@ -2,6 +2,7 @@
 use Rattle.std.proofs.Common.{◌≡◌, ℕ, zero, suc, ◌<◌, ◌^◌, pos, Bool, true, false, cond, ◌&&◌, ◌||◌, List, [], ◌∷◌, ◌++◌, length, fold, filter, replicate, slice_get, slice_set, Option, Some, None, IfSome, refl, sym, ap, ◌∙◌, arith, true≢false, ◌⊎◌, inl, inr}
 use Rattle.std.proofs.lemmas.List.Folds.{list_any-append}
 use Rattle.std.specs.Fmt.{decimal}
+use Rattle.mk_base.proofs.Items.{get_replicate}
 use Rattle.mk_base.proofs.Lists.{filter_append, get_is, length_set, set_here, set_else}
 use Rattle.mk_plan.specs.declared.Input.{Input}
 use Rattle.mk_local.specs.declared.inputs.Taken.{Taken}
@@ -74,11 +75,6 @@ module _ (T : Turn) (before : List Input) (i : Input) where
       ]
 
 -- at first nothing is taken
-get_replicate : {X : Type 0} (n k : ℕ) (x : X) → k < n → slice_get (replicate n x) k ≡ Some x
-get_replicate zero k x below = absurd (omega arith)
-get_replicate (suc n) zero x below = refl
-get_replicate (suc n) (suc k) x below = get_replicate n k x (omega arith)
-
 abbrev nothing : Taken
 nothing = record { seen = false; sum = pos 0 }
 

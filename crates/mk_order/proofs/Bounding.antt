@@ -346,7 +346,3 @@ module _ (P : Plan) (valid : IsValidPlan P) (starts : ℕ → Option Tier) (none
               λ w o. let b = end_before w o in time_up_to d w (up_to_trans d b.0 w (l.1 b.0 b.1) b.2),
             ),
           )
-
--- a Step always has a max_advance
-pub some_max_advance : (P : Plan) → IsValidPlan P → (J : List Entry) → IsOrderlySoFar IsReady IsAdvance P J → (s : ℕ) (x : Tier) → (m : ℤ) × IsAdvance P (view P J) s x m
-some_max_advance P valid J orderly s x = let t = some_outer P valid (start P (view P J)) (λ i high. (start_beyond P valid J orderly i high).0) s in some_advance P (view P J) s x t.0 t.1

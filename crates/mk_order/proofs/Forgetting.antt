@@ -49,33 +49,3 @@ pub data IsOvertaken (front back : List Timed) (d : Timed) : Timed → Type 0 wh
 pub latest_without : (front back : List Timed) (d e : Timed) → IsOvertaken front back d e → latest (front ++ d ∷ back) ≡ latest (front ++ back)
 latest_without front back d e (by_next _ m h) = fold-append later None front (d ∷ back) ∙ overtaken (latest front) back d e m h ∙ sym (fold-append later None front back)
 latest_without front back d e (by_later _ m h) = fold-append later None front (d ∷ back) ∙ ap (λ (o : Option Timed). fold later o back) (lesser front e d m h) ∙ sym (fold-append later None front back)
-
--- the same among those that pass a test, where the other passes if d does
-pub chosen_without : (test : Timed → Bool) (front back : List Timed) (d e : Timed) → IsOvertaken front back d e → (test d ≡ true → test e ≡ true) → latest (filter test (front ++ d ∷ back)) ≡ latest (filter test (front ++ back))
-chosen_without test front back d e over goes = ap latest (filter_append test front (d ∷ back)) ∙ by_test (test d) refl ∙ sym (ap latest (filter_append test front back))
-  where
-    kept : IsOvertaken front back d e → test e ≡ true → IsOvertaken (filter test front) (filter test back) d e
-    kept (by_next _ m h) t = by_next e (filter_in test e back m t) h
-    kept (by_later _ m h) t = by_later e (filter_in test e front m t) h
-
-    by_test : (b : Bool) → test d ≡ b → latest (filter test front ++ cond b (d ∷ filter test back) (filter test back)) ≡ latest (filter test front ++ filter test back)
-    by_test true p = latest_without (filter test front) (filter test back) d e (kept over (goes p))
-    by_test false p = refl
-
--- a list that keeps all after the mark, and of the others the latest, answers each later question
--- as the whole list does
-pub latest_from_mark : (mark x : Tier) → IsUpTo mark x → (kept all : List Timed) → filter (λ d. not (up_to d.at mark)) kept ≡ filter (λ d. not (up_to d.at mark)) all
-    → latest (filter (λ d. up_to d.at mark) kept) ≡ latest (filter (λ d. up_to d.at mark) all) → latest (filter (λ d. up_to d.at x) kept) ≡ latest (filter (λ d. up_to d.at x) all)
-latest_from_mark mark x = latest_kept Tier Timed up_to (λ d. d.at) up_to_trans (λ x y h. up_to_total x y h) mark x
-
--- the latest after the previous step is the latest, if that comes after the previous step
-pub latest_since : (p : Option Tier) (x : Tier) (ts : List Timed) → latest (filter (λ d. up_to d.at x && is_since p d.at) ts) ≡ if_passes Tier Timed up_to (λ d. d.at) (λ d. is_since p d.at) (latest (filter (λ d. up_to d.at x) ts))
-latest_since p x ts = latest_windowed Tier Timed up_to (λ d. d.at) up_to_trans (λ x y h. up_to_total x y h) (λ d. is_since p d.at) (closed p) x ts
-  where
-    closed : (p : Option Tier) (d e : Timed) → up_to d.at e.at ≡ true → is_since p d.at ≡ true → is_since p e.at ≡ true
-    closed None d e h k = refl
-    closed (Some q) d e h k = go (up_to e.at q) refl
-      where
-        go : (b : Bool) → up_to e.at q ≡ b → not b ≡ true
-        go true r = ap not (sym (up_to_trans d.at e.at q h r)) ∙ k
-        go false r = refl

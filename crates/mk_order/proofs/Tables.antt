@@ -51,14 +51,6 @@ start_beyond P valid J orderly i high = (ap (λ (o : Option OpenTurn). step_at o
     none None e = refl
     none (Some x) e = absurd (let low = pending_below P (view P J).acts i x e in omega (arith, low, high))
 
--- so tables as far as the count are enough
-pub starts_below : (P : Plan) → IsValidPlan P → (J : List Entry) → IsOrderlySoFar IsReady IsAdvance P J → (starts : ℕ → Option Tier) (busy : ℕ → Bool)
-    → ((i : ℕ) → i < sim_count P → (starts i ≡ start P (view P J) i) × (busy i ≡ is_some ((view P J).open_at i))) → ((i : ℕ) → sim_count P ≤ i → (starts i ≡ None) × (busy i ≡ false)) → StartsOf P (view P J) starts busy
-starts_below P valid J orderly starts busy low high = record {
-  at = λ i. elim (cases_lt i (sim_count P)) [ inl l ↦ (low i l).0 | inr h ↦ (high i h).0 ∙ sym (start_beyond P valid J orderly i h).0 ];
-  opened = λ i. elim (cases_lt i (sim_count P)) [ inl l ↦ (low i l).1 | inr h ↦ (high i h).1 ∙ ap is_some (sym (start_beyond P valid J orderly i h).1) ];
-}
-
 module _ (P : Plan) (V : View) (starts : ℕ → Option Tier) (busy : ℕ → Bool) (mirror : StartsOf P V starts busy) where
   pub same_starts : starts ≡ start P V
   same_starts = λ k i. mirror.at i k

@@ -3,11 +3,6 @@ use Rattle.std.proofs.Common.{◌≡◌, List, [], ◌++◌, Option, None, Some,
 use Rattle.std.proofs.lemmas.List.{append-nil}
 use Rattle.mk_outside.specs.Asked.{Asked, Asks}
 
--- no call asks nothing
-pub asks_none : (old new : Option (List Asked)) → new ≡ old → Asks [] old new
-asks_none old None same = tt
-asks_none old (Some after) same = (after, sym same, sym (append-nil after))
-
 -- what two calls ask, one after the other
 pub asks_more : (first second : List Asked) (old mid new : Option (List Asked)) → Asks first old mid → Asks second mid new → Asks (first ++ second) old new
 asks_more first second old mid None one two = tt

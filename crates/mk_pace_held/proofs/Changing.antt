@@ -3,6 +3,8 @@ use Rattle.std.proofs.Common.{◌≡◌, ◌⊎◌, inl, inr, ℕ, zero, suc, �
 use Rattle.std.proofs.lemmas.List.{get_or-replicate, get_or-set_same, length-replicate}
 use Rattle.std.proofs.lemmas.Option.{slice_get_read, slice_get-get_or, slice_get_within}
 use Rattle.mk_base.specs.declared.SimNo.{SimNo}
+use Rattle.mk_base.proofs.Counts.{same_or_not}
+use Rattle.mk_base.proofs.Items.{get_replicate}
 use Rattle.mk_base.proofs.Lists.{below_get, length_set, none_some, set_else, set_here, some_same}
 use Rattle.mk_pace_held.specs.declared.held.First.{First}
 use Rattle.mk_pace_held.specs.declared.held.Held.{Held}
@@ -50,14 +52,11 @@ held_behind lists now s q new h same less is pushed = (
   subst (λ (p : List Held). IsChanged s q p now (slice_set lists s new)) pushed (changed lists now s q new same (there_at now s q less (is ∙ ap (λ (ls : List (List Held)). get_or ls s q) same))),
 )
 
-split : (i s : ℕ) → (i ≡ s) ⊎ (i ≡ s → ⊥)
-split i s = grind arith
-
 -- the leaf is set with the items
 pub kept_set : (leaves : List (Option First)) (lists : List (List Held)) (s : SimNo) (q : List Held) (first : Option First) → AreFirsts leaves lists → s.0 < length lists → first ≡ first_at s q → AreFirsts (slice_set leaves s.0 first) (slice_set lists s.0 q)
 kept_set leaves lists s q first kept less is = record {
   count = length_set leaves s.0 first ∙ kept.count ∙ sym (length_set lists s.0 q);
-  each = λ i p there. elim (split i s.0) [
+  each = λ i p there. elim (same_or_not i s.0) [
     | inl same ↦
         let old = below_get lists s.0 less in
         let now : q ≡ p = some_same (sym (set_here lists s.0 q old.0 old.1) ∙ ap (slice_get (slice_set lists s.0 q)) (sym same) ∙ there) in
@@ -70,7 +69,7 @@ kept_set leaves lists s q first kept less is = record {
 pub kept_behind : (leaves : List (Option First)) (lists : List (List Held)) (s : SimNo) (old new : List Held) → AreFirsts leaves lists → slice_get lists s.0 ≡ Some old → first_at s old ≡ first_at s new → AreFirsts leaves (slice_set lists s.0 new)
 kept_behind leaves lists s old new kept at same = record {
   count = kept.count ∙ sym (length_set lists s.0 new);
-  each = λ i p there. elim (split i s.0) [
+  each = λ i p there. elim (same_or_not i s.0) [
     | inl here ↦
         let now : new ≡ p = some_same (sym (set_here lists s.0 new old at) ∙ ap (slice_get (slice_set lists s.0 new)) (sym here) ∙ there) in
         ap (slice_get leaves) here ∙ kept.each s.0 old at ∙ ap Some (same ∙ ap (first_at s) now ∙ ap (λ (n : ℕ). first_at (record { 0 = n }) p) (sym here))
@@ -94,17 +93,14 @@ kept_read leaves after lists now s q read first kept same less is begins set =
     subst (λ (ls : List (Option First)). AreFirsts ls (slice_set lists s.0 q)) (sym set)
     (kept_set leaves lists s q first kept less (begins ∙ ap (first_at s) (is ∙ get_or-set_same lists s.0 q read less)))
 
-at_replicate : {X : Type 0} (n i : ℕ) (x : X) → i < n → slice_get (replicate n x) i ≡ Some x
-at_replicate n i x less = slice_get-get_or (replicate n x) i x (subst (λ (m : ℕ). i < m) (sym (length-replicate n x)) less) ∙ ap Some (get_or-replicate n i x x less)
-
 -- nothing waits of any
 pub kept_none : (n : ℕ) → AreFirsts (replicate n None) (replicate n [])
 kept_none n = record {
   count = length-replicate n None ∙ sym (length-replicate n []);
   each = λ i q there.
       let less : i < n = subst (λ (m : ℕ). i < m) (length-replicate n []) (slice_get_within (replicate n []) i q there) in
-      let none : [] ≡ q = some_same (sym (at_replicate n i [] less) ∙ there) in
-      at_replicate n i None less ∙ ap (λ (p : List Held). Some (first_at (record { 0 = i }) p)) none;
+      let none : [] ≡ q = some_same (sym (get_replicate n i [] less) ∙ there) in
+      get_replicate n i None less ∙ ap (λ (p : List Held). Some (first_at (record { 0 = i }) p)) none;
 }
 
 -- the least at the leaves is to be sent first of all

@@ -2,6 +2,7 @@
 use Rattle.std.proofs.Common.{◌≡◌, ◌⊎◌, inl, inr, ℕ, zero, suc, ◌+◌, ◌-◌, ◌*◌, ◌/◌, ◌<◌, ◌≤◌, List, length, drop, replicate, Option, Some, None, slice_set, sym, ap, ◌∙◌, subst, arith}
 use Rattle.std.proofs.lemmas.List.{drop-set-lt, drop-set-add, drop-replicate, get_or-drop, get_or-set_same, get_or-set_other, length-drop}
 use Rattle.std.proofs.lemmas.Option.{get_or_from_slice_get, slice_get-get_or, slice_get_within}
+use Rattle.mk_base.proofs.Counts.{same_or_not}
 use Rattle.mk_base.proofs.Lists.{length_set}
 use Rattle.mk_pace_held.specs.declared.held.First.{First}
 use Rattle.mk_pace_held.specs.Firsts.{IsNoLater, earlier_of}
@@ -42,16 +43,13 @@ rising_goes_on nodes at leaf leaves x first old rising more is = record {
   high = omega (arith, rising.high);
   right = record {
     count = length_set nodes (at / 2) x ∙ rising.right.count;
-    right = λ i low high apart. elim (split i) [
+    right = λ i low high apart. elim (same_or_not i (at / 2)) [
       | inl same ↦ subst (IsRight (slice_set nodes (at / 2) x)) (sym same) (right_made nodes (at / 2) x (omega (arith, rising.high, rising.right.count)) (omega arith) is)
       | inr other ↦ right_kept nodes (at / 2) i x (rising.right.right i low high other) other (λ e. apart (omega (arith, e))) (λ e. apart (omega (arith, e)))
     ];
   };
   is = drop-set-lt leaves nodes (at / 2) x (omega (arith, rising.high)) ∙ rising.is;
 }
-  where
-    split : (i : ℕ) → (i ≡ at / 2) ⊎ (i ≡ at / 2 → ⊥)
-    split i = grind arith
 
 -- at the leaves of a new tree nothing stands
 pub none_leaves : (leaves : ℕ) → drop leaves (replicate {A = Option First} (2 * leaves) None) ≡ replicate leaves None

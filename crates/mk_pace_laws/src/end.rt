@@ -17,8 +17,8 @@ pub enum PaceEnd {
     },
 }
 
-/// A Step that was sent: its simulator and time, its moment, and what the clock told last before it
-/// was sent, both in milliseconds of the clock.
+/// A Step that was sent: its simulator and time, its moment, and a number that the clock told, no less
+/// than the moment, both in milliseconds of the clock.
 #[derive(Clone, Copy, Debug, PartialEq, Eq)]
 pub struct Moment {
     pub sim: SimNo,

@@ -11,9 +11,10 @@ pub fn paces_are_right()
     ensures { PacesAreRight }
 {}
 
-/// Where a fleet naps whose clock doesn't go back, the journal was that of all messages heard by
-/// then, nobody was ready in it, the last read of each link found nothing, and all that was due was
-/// said and nothing of what was early, but where the link's last write took nothing.
+/// Where a fleet naps whose clock doesn't go back, the links of the run being parked at each nap, the
+/// journal was that of all messages heard by then, nobody was ready in it, the last read of each link
+/// found nothing, and all that was due was said and nothing of what was early, but where the link's
+/// last write took nothing.
 pub fn naps_are_well()
     ensures { NapsAreWell }
 {}

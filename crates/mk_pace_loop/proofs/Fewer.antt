@@ -47,17 +47,5 @@ taken_fewer s h q W V c = record { same = c.same; count = changed_less s h q W.h
 pub step_fewer : (s : ℕ) (h : Held) (q : List Held) (W V : WaitingSeen) → IsChanged s (h ∷ q) q W.holds V.holds → IsOnTempo W V → IsFewer W V
 step_fewer s h q W V c same = record { same = same; count = changed_less s h q W.holds V.holds c; sims = c.count }
 
-pub fewer_then : (A B D : WaitingSeen) → IsFewer A B → IsNoMore B D → IsFewer A D
-fewer_then A B D one two = record { same = on_tempo A B D one.same two.same; count = below (held_count A.holds) (held_count B.holds) (held_count D.holds) one.count two.count; sims = two.sims ∙ one.sims }
-  where
-    below : (a b c : ℕ) → b < a → c ≤ b → c < a
-    below a b c less few = omega (arith, less, few)
-
-pub more_then : (A B D : WaitingSeen) → IsNoMore A B → IsFewer B D → IsNoMore A D
-more_then A B D one two = record { same = on_tempo A B D one.same two.same; count = below (held_count A.holds) (held_count B.holds) (held_count D.holds) one.count two.count; sims = two.sims ∙ one.sims }
-  where
-    below : (a b c : ℕ) → b ≤ a → c < b → c ≤ a
-    below a b c few less = omega (arith, less, few)
-
 pub none_more : (A : WaitingSeen) → IsNoMore A A
 none_more A = record { same = record { tempo = refl; strict = refl }; count = omega arith; sims = refl }

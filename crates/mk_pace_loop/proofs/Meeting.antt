@@ -1,5 +1,5 @@
 -- A message was heard, and the core has it.
-use Rattle.std.proofs.Common.{◌≡◌, inl, inr, ℕ, suc, ◌+◌, ◌<◌, ◌==◌, Bool, true, false, ◌&&◌, List, [], ◌∷◌, ◌++◌, length, map, filter, Option, Some, None, is_some, refl, sym, ap, ◌∙◌, subst, arith, if◌then◌else◌, true≢false, length-append}
+use Rattle.std.proofs.Common.{◌≡◌, inl, inr, ℕ, suc, ◌+◌, ◌<◌, Bool, true, false, ◌&&◌, List, [], ◌∷◌, ◌++◌, length, map, filter, Option, Some, None, is_some, refl, sym, ap, ◌∙◌, subst, arith, if◌then◌else◌, true≢false, length-append}
 use Rattle.std.specs.List.{cons_option}
 use Rattle.mk_base.specs.declared.LinkNo.{LinkNo}
 use Rattle.mk_base.specs.declared.SimNo.{SimNo}
@@ -11,7 +11,6 @@ use Rattle.mk_plan.specs.declared.Plan.{Plan}
 use Rattle.mk_plan.specs.Journals.{Arrival, OpenTurn, bare, got, sent, view}
 use Rattle.mk_plan.specs.Plans.{sim_count}
 use Rattle.mk_plan.specs.Sequential.{takes_id}
-use Rattle.mk_order.proofs.Pushing.{got_push}
 use Rattle.mk_outside.specs.declared.fleet.LogEntry.{LogEntry}
 use Rattle.mk_outside.specs.declared.fleet.LogEntry.TheVariants.{Nap}
 use Rattle.mk_local.specs.Simulators.{Simulator}

@@ -1,7 +1,7 @@
 -- The moments of what was sent, with the next Step of a simulator.
 use Rattle.std.proofs.Common.{◌≡◌, ℕ, suc, ◌+◌, ◌≤◌, ℤ, Bool, List, [], ◌∷◌, ◌++◌, length, map, filter, filter_map, Option, Some, if◌then◌else◌, inl, inr, refl, sym, ap, ◌∙◌, subst, arith, append_assoc}
 use Rattle.mk_base.specs.declared.tier.Tier.{Tier}
-use Rattle.mk_base.specs.Lists.{BeginsWith, Each, IsIn}
+use Rattle.mk_base.specs.Lists.{BeginsWith, IsIn}
 use Rattle.mk_base.proofs.Lists.{append_nil, filter_append, filter_map_append, map_append}
 use Rattle.mk_plan.specs.declared.Entry.{Entry}
 use Rattle.mk_plan.specs.declared.Input.{Input}

@@ -6,7 +6,6 @@ use Rattle.mk_base.specs.Lists.{BeginsWith}
 use Rattle.mk_base.proofs.Lists.{append_nil, filter_append, filter_map_append, some_same}
 use Rattle.mk_plan.specs.declared.Entry.{Entry}
 use Rattle.mk_plan.specs.declared.Item.{Item}
-use Rattle.mk_plan.specs.declared.Item.TheVariants.{Step, GetData, Answer, Refuse}
 use Rattle.mk_plan.specs.declared.Message.{Message}
 use Rattle.mk_plan.specs.declared.Plan.{Plan}
 use Rattle.mk_plan.specs.Journals.{bare, got, sent, view}

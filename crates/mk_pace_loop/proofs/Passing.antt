@@ -20,7 +20,6 @@ use Rattle.mk_local.specs.Simulators.{Simulator}
 use Rattle.mk_run_laws.specs.Crews.{CrewState, AreMoved, IsMovedAt, IsRestless, IsUnheard, kept_of, channel_at}
 use Rattle.mk_run_laws.specs.Handshake.{has_link, sim_link}
 use Rattle.mk_run_laws.specs.Channels.{Channel}
-use Rattle.mk_run_laws.specs.Rests.{AllSetUp, IsWellInSetup}
 use Rattle.mk_run_laws.specs.inner.Running.{HasChannel}
 use Rattle.mk_run_laws.proofs.Stepping.{first_or_second}
 use Rattle.mk_run_laws.proofs.Moving.{moved_none}

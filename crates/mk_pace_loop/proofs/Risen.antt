@@ -83,17 +83,3 @@ told_rises told (Some all) (Some after) least (before, was, grown) = (
 pub greatest_behind : (before less : List LogEntry) → greatest_told less ≤ greatest_told (before ++ less)
 greatest_behind [] less = omega arith
 greatest_behind (e ∷ before) less = let b = greatest_behind before less in omega (arith, b)
-
--- the entries that were added rise by themselves
-pub rising_entries : (entries : List LogEntry) (old new : Option (List LogEntry)) → Adds entries old new → RisesOn old new → IsSome new → IsRising entries
-rising_entries entries old None adds rises some less later n parts = absurd (true≢false (sym some))
-rising_entries entries old (Some after) (before, was, grown) (start, added, is, grew, rising) some less later n parts =
-    let same : start ≡ before = some_same (sym is ∙ was) in
-    let one : before ++ entries ≡ before ++ added = sym grown ∙ grew ∙ ap (λ (l : List LogEntry). l ++ added) same in
-    let up = rising less later n (sym (same_rest before entries added one) ∙ parts) in
-    let low = greatest_behind start less in
-    omega (arith, up, low)
-  where
-    same_rest : (front one other : List LogEntry) → front ++ one ≡ front ++ other → one ≡ other
-    same_rest [] one other e = e
-    same_rest (x ∷ front) one other e = same_rest front one other (same_heads e).1

@@ -87,11 +87,6 @@ pub behind_done : (core : CoreState) (C D : CrewSeen) (W V : WaitingSeen) (s : �
     → SendsBehindAs (Ok tt) s core C W D V
 behind_done core C D W V s goes q there step = λ S log p. all_again s S V.tempo V.strict core.plan core.entries log (crew_of D) D.sims V.holds V.moments q there step (goes S log p)
 
--- one more was sent
-pub behind_more : (core : CoreState) (C D E : CrewSeen) (W V X : WaitingSeen) (s : ℕ) → ((S : Setting) (log : List LogEntry) → GoesOnBut s S core log C W → GoesOnBut s S core log D V) → SendsNextAs (Ok tt) s core D V E X
-    → (S : Setting) (log : List LogEntry) → GoesOnBut s S core log C W → GoesOnBut s S core log E X
-behind_more core C D E W V X s goes next S log p = next S log (goes S log p)
-
 pub behind_not : (core : CoreState) (C D E : CrewSeen) (W V X : WaitingSeen) (s : ℕ) (end : Outcome) → ((S : Setting) (log : List LogEntry) → GoesOnBut s S core log C W → GoesOnBut s S core log D V) → SendsNextAs (Err end) s core D V E X
     → SendsBehindAs (Err end) s core C W E X
 behind_not core C D E W V X s end goes next = λ S log p. next S log (goes S log p)
@@ -155,21 +150,6 @@ due_more core C D E W V X told goes first S log p just = first S log (goes S log
 
 pub due_not : (core : CoreState) (C D E : CrewSeen) (W V X : WaitingSeen) (told : ℕ) (end : Outcome) → HasSent told core C W D V → SendsFirstAs (Err end) told core D V E X → SendsDueAs (Err (pace.Outcome end)) told core C W E X
 due_not core C D E W V X told end goes first = λ S log p just. first S log (goes S log p just) just
-
--- nothing that waits is a Step at all
-pub due_none : (core : CoreState) (C D : CrewSeen) (W V : WaitingSeen) (told : ℕ) → HasSent told core C W D V → ((i : ℕ) (q : List Held) → slice_get V.holds i ≡ Some q → first_at (record { 0 = i }) q ≡ None) → SendsDueAs (Ok tt) told core C W D V
-due_none core C D W V told goes none = ((λ i q f there is. absurd (apart (sym (none i q there) ∙ is))), goes)
-  where
-    apart : {f : First} → None ≡ Some f → ⊥
-    apart e = cc
-
--- the first is due later
-pub due_later : (core : CoreState) (C D : CrewSeen) (W V : WaitingSeen) (told : ℕ) (f : First) → HasSent told core C W D V → IsFirst f V.holds → told < f.due.moment → SendsDueAs (Ok tt) told core C W D V
-due_later core C D W V told f goes first later = ((λ i q g there is. before i q g (first.least i q g there is)), goes)
-  where
-    before : (i : ℕ) (q : List Held) (g : First) → IsNoLater f g → told < g.due.moment
-    before i q g (inl less) = omega (arith, later, less)
-    before i q g (inr same) = let e = same.0 in omega (arith, later, e)
 
 -- the first is too late
 pub due_late : (core : CoreState) (C D : CrewSeen) (W V : WaitingSeen) (told : ℕ) (f : First) (end : PaceEnd) → HasSent told core C W D V → IsFirst f V.holds → IsTooLate f told V end → SendsDueAs (Err end) told core C W D V

@@ -16,7 +16,3 @@ in_time told ms holds f first le i q g there is = elim (first.least i q g there 
   | inl less ↦ omega (arith, le, less)
   | inr t ↦ let e = t.0 in omega (arith, le, e)
 ]
-
--- where nothing waits first, nothing is overdue
-pub none_late : (told ms : ℕ) (holds : List (List Held)) → ((i : ℕ) (q : List Held) → slice_get holds i ≡ Some q → first_at (record { 0 = i }) q ≡ None) → IsInTime told ms holds
-none_late told ms holds none i q g there is = absurd (none_some (sym (none i q there) ∙ is))

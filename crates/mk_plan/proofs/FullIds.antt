@@ -8,9 +8,6 @@ use Rattle.mk_plan.specs.declared.PlanEntity.{PlanEntity}
 use Rattle.mk_plan.specs.Plans.{owner, eid_of, full_id, sim_id, dot, RefersInside, HasDistinctNames}
 use Rattle.mk_base.proofs.Items.{get_below}
 
-pub full_id_is : (P : Plan) (e s : ℕ) (sim : PlanSim) (entity : PlanEntity) → s ≡ owner P e → slice_get P.sims s ≡ Some sim → slice_get P.entities e ≡ Some entity → sim.id ++ dot ∷ entity.eid ≡ full_id P e
-full_id_is P e s sim entity owned there is = rw (sym owned, there, is) (sym (append_assoc sim.id (dot ∷ []) entity.eid))
-
 tail_all : (b : ℕ) (bs : List ℕ) → All (λ (c : ℕ). c ≢ dot) (b ∷ bs) → All (λ (c : ℕ). c ≢ dot) bs
 tail_all b bs all = λ i d low. all (suc i) d (omega (arith, low))
 

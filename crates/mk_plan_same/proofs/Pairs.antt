@@ -27,7 +27,3 @@ other_at xs ys i x y below is there other same =
 -- all places are the same
 pub all_same : {X : Type 0} (xs ys : List X) (i : ℕ) → length xs ≡ length ys → length xs ≤ i → take i xs ≡ take i ys → xs ≡ ys
 all_same xs ys i long end same = sym (take_all i xs end) ∙ same ∙ take_all i ys (omega (arith, long, end))
-
--- lists of two lengths
-pub other_lengths : {X : Type 0} (xs ys : List X) → (length xs ≡ length ys → ⊥) → xs ≡ ys → ⊥
-other_lengths xs ys other same = other (ap length same)

@@ -74,13 +74,6 @@ gone_lifted l (x ∷ xs) most = elim (same_link x l) as (λ b. same_link x l ≡
   | false ↦ λ e. omega (arith, times-cons l x (lifted l xs), gone_lifted l xs (omega (arith, times-cons l x xs, most)), ap once e)
 ] refl
 
-pub lifted_le : (l : LinkNo) (xs : List LinkNo) → length (lifted l xs) ≤ length xs
-lifted_le l [] = omega arith
-lifted_le l (x ∷ xs) = elim (same_link x l) as (λ b. length (cond b (last_first xs) (x ∷ lifted l xs)) ≤ length (x ∷ xs)) [
-  | true ↦ omega (arith, length_last_first xs)
-  | false ↦ omega (arith, lifted_le l xs)
-]
-
 pub lifted_lt : (l : LinkNo) (xs : List LinkNo) → IsIn l xs → length (lifted l xs) < length xs
 lifted_lt l [] none = absurd none
 lifted_lt l (x ∷ xs) (inl here) =

@@ -23,13 +23,6 @@ spots_are spots t ready taken parked have one two three = record {
 pub not_parked : (spots : List (Option ℕ)) (k : LinkNo) (t : Turning) → HaveSpots spots t → spot_at spots k ≡ None → times_in k t.parked ≡ 0
 not_parked spots k t have none = times-none k t.parked (λ h. let i = in_at k t.parked h in none_some (sym none ∙ have.at.here i.0 k i.1))
 
--- there may be more links
-pub spots_more : (old new : List (Option ℕ)) (t : Turning) → AreMore old new → HaveSpots old t → HaveSpots new t
-spots_more old new t more have = record {
-  below = λ l e. omega (arith, more.count, have.below l e);
-  at = more_at old new t.parked more have.at;
-}
-
 -- a link is added
 pub spots_added : (old new : List (Option ℕ)) (k : LinkNo) (t : Turning) → AreMore old new → k.0 < length new → HaveSpots old t → HaveSpots new (added k t)
 spots_added old new k t more below have = record {

@@ -7,14 +7,6 @@ use Rattle.mk_record_compare.specs.inner.Matches.{left, IsMessageNext}
 use Rattle.mk_record_read.specs.declared.saved.Asked.{Asked}
 use Rattle.mk_record_read.specs.Entries.{MessageOf, step_of, entries_after}
 
--- a step before which enough messages came is the next entry
-pub left_due : (n : ℕ) (A : List Arrival) (a : Asked) (steps : List Asked) → a.before ≤ n → entries_after n A (a ∷ steps) ≡ step_of a ∷ entries_after n A steps
-left_due n A a steps h =
-    let none : a.before - n ≡ 0 = omega (arith, h) in
-    let same : max n a.before ≡ n = grind (arith, h) in
-    ap (λ k. map MessageOf (take k A) ++ step_of a ∷ entries_after (max n a.before) (drop k A) steps) none
-    ∙ ap (λ m. step_of a ∷ entries_after m A steps) same
-
 nothing_taken : (k : ℕ) → take k (let A : List Arrival = [] in A) ≡ []
 nothing_taken zero = refl
 nothing_taken (suc k) = refl

@@ -123,19 +123,6 @@ drop_none : {X : Type 0} (xs : List X) → drop 0 xs ≡ xs
 drop_none [] = refl
 drop_none (x ∷ xs) = refl
 
-pub walked_first : (messages : Option (List Arrival)) (count : ℕ) (J : List Entry) (asks : List Asked) → IsWalked messages count J asks 0 0 0 count asks
-walked_first messages count J asks = λ A are. (
-  record {
-    same = sym (ap (λ (l : List Entry). entries_of l ++ left 0 (drop 0 A) asks) (take_none J) ∙ ap (λ (l : List Arrival). left 0 l asks) (drop_none A));
-    count = sym (ap (λ (l : List Entry). length (entries_of l)) (take_none J));
-  },
-  ap length (drop_none A) ∙ as_many messages A are,
-)
-  where
-    as_many : (messages : Option (List Arrival)) (A : List Arrival) → AreMessages messages count J A → length A ≡ count
-    as_many None A are = are.1
-    as_many (Some known) A are = are.1
-
 -- the same of equal values
 pub walked_now : (messages : Option (List Arrival)) (count : ℕ) (J : List Entry) (asks : List Asked) (i place later n m rest less : ℕ) (steps fewer : List Asked)
     → later ≡ place → m ≡ n → less ≡ rest → fewer ≡ steps → IsWalked messages count J asks i place n rest steps → IsWalked messages count J asks i later m less fewer

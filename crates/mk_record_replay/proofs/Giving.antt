@@ -40,9 +40,6 @@ use Rattle.mk_record_replay.proofs.Counting.{some_are_open}
 
 -- ---- whoever is ready is asked
 
-pub goes_on_first : (core : CoreState) → GoesOn core core
-goes_on_first core = record { plan = refl; more = []; longer = sym (append_nil core.entries); sent_only = refl; on_way = λ A h. h }
-
 pub goes_on_asked : (first old new : CoreState) (s : SimNo) → GoesOn first old → IsAsked old s new → GoesOn first new
 goes_on_asked first old new s g a = record {
   plan = ap (λ (c : CoreState). c.plan) a.moved ∙ g.plan;
@@ -54,28 +51,6 @@ goes_on_asked first old new s g a = record {
 
 pub asked_goes : (old new : CoreState) (s : SimNo) → IsAsked old s new → new.ended ≡ None
 asked_goes old new s a = ap (λ (c : CoreState). c.ended) a.moved
-
--- there is less room
-pub asked_fills : (old new : CoreState) (s : SimNo) → IsAsked old s new → Stands new.plan new.entries → new.plan.entries - length new.entries < old.plan.entries - length old.entries
-asked_fills old new s a stands = let longer : length new.entries ≡ length old.entries + 1 = ap (λ (c : CoreState). length c.entries) a.moved ∙ length-append old.entries (Sent s (Step a.at a.inputs a.advance) ∷ []) in
-    let same : new.plan.entries ≡ old.plan.entries = ap (λ (c : CoreState). c.plan.entries) a.moved in let room : length new.entries ≤ new.plan.entries = stands.within in omega arith
-
-goes_on_same : (first old new : CoreState) → GoesOn first old → new ≡ old → GoesOn first new
-goes_on_same first old new g same = subst (λ (c : CoreState). GoesOn first c) (sym same) g
-
-pub asked_waiting : (first old new : CoreState) → GoesOn first old → AwaitsMessage old new → Stands new.plan new.entries → HasAskedAll first standstills.Waiting new
-asked_waiting first old new g w stands = record {
-  goes = goes_on_same first old new g w.same;
-  stands = stands;
-  by = subst (λ (c : CoreState). (c.ended ≡ None) × IsUnready c × SomeOpen c.plan c.entries) (sym w.same) (w.going, w.nobody, w.waiting);
-}
-
-pub asked_over : (first old new : CoreState) → GoesOn first old → IsOver old new → Stands new.plan new.entries → HasAskedAll first standstills.Over new
-asked_over first old new g o stands = record {
-  goes = goes_on_same first old new g o.same;
-  stands = stands;
-  by = subst (λ (c : CoreState). (c.ended ≡ None) × IsDone c.plan (view c.plan c.entries) × IsFinished c.plan c.entries) (sym o.same) (o.going, o.done, o.finished);
-}
 
 not_before : {X : Type 0} (old new : CoreState) (f : CoreFault) → old.ended ≡ None → WasFaulty old f new → X
 not_before old new f going was = absurd (none_some (sym going ∙ was.0))

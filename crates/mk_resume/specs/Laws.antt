@@ -110,7 +110,8 @@ RunsAndResumedRunsAreAlike = (X : Exchange) (P : Plan) (J : List Entry) (faults 
     → AreAlike P J K
 
 -- nothing went wrong that a resumed run can show: each simulator sent its saved messages again and
--- then right ones, no limit was met, no link ended or brought no message, and no count rose
+-- then right ones, no limit was met, no link ended or brought no message, no item was too long, and
+-- no count rose
 pub record IsFaultless (X : Exchange) (P : Plan) (first J : List Entry) (heard : Counts)
     (faults new_faults : ℕ) : Type 0 where
   pub no_fault : (view P J).fault ≡ None

@@ -111,8 +111,8 @@ ShownBy X P first J heard faults new_faults
 -- entries that it added to the log. `first` is the journal after the record's messages, which the
 -- run's begins with. Each simulator has sent so many of the journal's messages again in this call
 -- (`heard`), and the journal has of it as many as the record, or as were heard, whichever are more;
--- those of a simulator within the program are its kind's replies, each of which was awaited, an item
--- before it not being answered; and each simulator was sent what is free then, which is what
+-- those of a simulator within the program are its kind's replies, each of which was awaited, an
+-- item before it not being answered; and each simulator was sent what is free then, which is what
 -- stands in the journal before its next message. The journal has no fault but one that the end
 -- names, and no link but the run's was read or written
 pub record IsResumed (X : Exchange) (P : Plan) (saved : Saved) (J : List Entry)

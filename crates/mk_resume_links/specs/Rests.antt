@@ -34,10 +34,10 @@ rest_counts saved started S log i = option_map
 abbrev pub at_rest : Counts → ℕ → Scenario → List LogEntry → List Entry → List Entry
 at_rest saved started S before J = within (rest_counts saved started S before) J
 
--- where a resumed run rests, J being its journal: what was there by then begins, for each link, with
--- all messages heard by then; nobody is ready in it, and no request is open within the program;
--- the handshake was said and the items that were free by then, and no others, or a beginning of these
--- after which a write took nothing; and the last read of each link found nothing
+-- where a resumed run rests, J being its journal: what was there by then begins, for each link,
+-- with all messages heard by then; nobody is ready in it, and no request is open within the
+-- program; the handshake was said and the items that were free by then, and no others, or a
+-- beginning of these after which a write took nothing; and the last read of each link found nothing
 pub record IsWellAtRest (saved : Counts) (started : ℕ) (S : Scenario) (P : Plan) (J : List Entry)
     (before : List LogEntry) : Type 0 where
   pub has_all : (i : ℕ) (l : LinkNo) → sim_link started S i ≡ Some l

@@ -1,6 +1,6 @@
 -- A simulator is sent the items of the journal anew, up to its next message there.
 use Rattle.std.proofs.Common.{◌≡◌, inl, inr, ℕ, ◌<◌, ◌≤◌, nat_lt, Bool, true, false, ◌&&◌, List, [], ◌∷◌, ◌++◌, length, map, Option, Some, if◌then◌else◌, refl, sym, ap, ◌∙◌, subst, arith, length-append, true≢false, ◌+◌}
-use Rattle.std.proofs.lemmas.Bool.{lt-ltb, ltb-true}
+use Rattle.std.proofs.lemmas.Bool.{lt-ltb}
 use Rattle.mk_base.specs.declared.LinkNo.{LinkNo}
 use Rattle.mk_base.proofs.Lists.{append_nil, some_same}
 use Rattle.mk_plan.specs.declared.Plan.{Plan}

@@ -4,7 +4,6 @@ use Rattle.std.proofs.lemmas.Bool.{eqb-true}
 use Rattle.mk_base.specs.declared.SimNo.{SimNo}
 use Rattle.mk_base.proofs.Lists.{filter_append, some_same}
 use Rattle.mk_plan.specs.declared.Item.{Item}
-use Rattle.mk_plan.specs.declared.Item.TheVariants.{Step, GetData, Answer, Refuse}
 use Rattle.mk_plan.specs.declared.Message.{Message}
 use Rattle.mk_plan.specs.declared.Entry.{Entry}
 use Rattle.mk_plan.specs.declared.Entry.TheVariants.{Sent, Got}

@@ -107,9 +107,6 @@ other_push i J e apart = places_push i 0 J e ∙ ap (λ (b : Bool). places_from 
 counted : (J : List Entry) (e : Entry) (n : ℕ) → n ≡ length J → n + 1 ≡ length (J ++ e ∷ [])
 counted J e n is = ap (λ (k : ℕ). k + 1) is ∙ sym (length-append J (e ∷ []))
 
-pub places_none : (own : List (List ℕ)) → ((i : ℕ) (places : List ℕ) → slice_get own i ≡ Some places → places ≡ []) → IsIndexOf [] (record { own = own; count = 0 })
-places_none own none = record { count = refl; own = none }
-
 -- the entry's place stands behind its simulator's others
 pub noted : (J : List Entry) (e : Entry) (own : List (List ℕ)) (count : ℕ) (old : List ℕ) → IsIndexOf J (record { own = own; count = count }) → slice_get own (sim_of e) ≡ Some old
     → IsIndexOf (J ++ e ∷ []) (record { own = slice_set own (sim_of e) (old ++ count ∷ []); count = count + 1 })

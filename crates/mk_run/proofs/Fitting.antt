@@ -55,10 +55,6 @@ first_request S i s e =
 
 -- ---- a simulator keeps its kind
 
-refused_kind : (r : Result Json (List ℕ)) (done same : Simulator) → done.kind ≡ same.kind → (unless_refused r done same).kind ≡ same.kind
-refused_kind (Ok content) done same e = e
-refused_kind (Err text) done same e = refl
-
 -- ---- what its reply to `init` says
 
 said_metadata : (T : Turn) (bad : Option (List ℕ)) (id other : ℕ) (content : Json) → message id (unless_bad bad (metadata T)) ≡ Success other content → metadata T ≡ content

@@ -47,10 +47,6 @@ use Rattle.mk_run.proofs.Shown.{ends_as}
 sent_same : (s t : SimNo) (item other : Item) → Sent s item ≡ Sent t other → item ≡ other
 sent_same s t item other e = cc
 
--- the last entry of a list that ends so
-pub ends_so : (core : CoreState) (s : SimNo) (item : Item) (id : ℕ) (entries before : List Entry) (e : Entry) → EndsWithItem core s item id → core.entries ≡ entries → entries ≡ before ++ e ∷ [] → e ≡ Sent s item
-ends_so core s item id entries before e d same is = (same_last before d.before e (Sent s item) (sym is ∙ sym same ∙ d.last)).1
-
 -- ---- a Step was asked
 
 module _ (T : Setting) (old new : CoreState) (log : List LogEntry) (C : CrewSeen) (s : SimNo) (u : GoesOn T old log C) (stands : Stands new.plan new.entries) (a : IsAsked old s new) where

@@ -32,26 +32,7 @@ set_there s w v L M set same i u e = elim (same_or_not i s) [
 
 -- ---- the places stay
 
-placed_as : (places : List (Option LinkNo)) (L M : Channels) → ((i : ℕ) (u : Channel) → at L i ≡ Some u → (x : Channel) × (at M i ≡ Some x) × (x.link ≡ u.link)) → IsPlaced places L → IsPlaced places M
-placed_as places L M on p = record {
-  distinct = p.distinct;
-  channel = λ i l e. let w = p.channel i l e in let v = on i w.0 w.1 in (v.0, v.1, v.2 ∙ w.2);
-}
-
-pub placed_set : (places : List (Option LinkNo)) (s : ℕ) (w v : Channel) (L M : Channels) → IsSet s w v L M → v.link ≡ w.link → IsPlaced places L → IsPlaced places M
-placed_set places s w v L M set same = placed_as places L M (set_there s w v L M set same)
-
-pub placed_moved : (places : List (Option LinkNo)) (entries : List LogEntry) (given : ℕ → List Message) (L M : Channels) → AreMoved entries given (crew L) (crew M) → IsPlaced places L → IsPlaced places M
-placed_moved places entries given L M moved = placed_as places L M (λ i u e. let t = moved_there entries (given i) (at L i) (at M i) u e (moved i) in (t.0, t.1, t.2.link))
-
 -- ---- open links
-
-pub open_set : (s : ℕ) (w v : Channel) (L M : Channels) (open_links : List LinkNo) → IsSet s w v L M → v.link ≡ w.link → AreOpen L open_links → AreOpen M open_links
-open_set s w v L M open_links set same all i u e = let b = set_back s w v L M set same i u e in subst (λ (k : LinkNo). IsIn k open_links) (sym b.2) (all i b.0 b.1)
-
-pub open_moved : (entries : List LogEntry) (given : ℕ → List Message) (L M : Channels) (open_links : List LinkNo) → AreMoved entries given (crew L) (crew M) → AreOpen L open_links → AreOpen M open_links
-open_moved entries given L M open_links moved all i u e =
-    let b = moved_back entries (given i) (at L i) (at M i) u e (moved i) in subst (λ (k : LinkNo). IsIn k open_links) (sym b.2) (all i b.0 b.1)
 
 -- the links that have a place are open where the channels' are
 pub places_open : (places : List (Option LinkNo)) (L : Channels) (open_links : List LinkNo) → IsPlaced places L → AreOpen L open_links → Each (λ (link : LinkNo). IsIn link open_links) (links_in places)

@@ -23,8 +23,8 @@ ComeInTurn S i l log = (k : ℕ) → k ≤ setup_count S i → k < length (messa
     → length (frames_of (take k (setup_payloads S i))) < length (said_on l log)
 
 -- simulator i answers rightly on its link: its answers are the first messages that were heard
--- there, each of which came in its turn; nothing was heard behind the last message, the link
--- didn't end, and each request fits into a frame
+-- there, each of which came in its turn; nothing was heard behind the last message, the link didn't
+-- end, and each request fits into a frame
 pub record AnswersRightly (A : Attempt) (answers : List Message) (i : ℕ) (l : LinkNo) : Type 0 where
   pub heard : BeginsWith (messages_heard (heard_on l A.log))
       (answers_to i (setup_requests A.scenario) answers)

@@ -83,7 +83,3 @@ handshake_says started S reply log entries risen i l queued later is ms w link a
     payloads_are : call_payloads 0 (filter_map (call_to i) queued) ++ call_text (length (filter_map (call_to i) queued)) Stop ∷ [] ≡ link_payloads S i (length (filter_map (call_to i) queued)) [] true
     payloads_are = ap (λ (ps : List (List ℕ)). ps ++ call_text (length (filter_map (call_to i) queued)) Stop ∷ []) (first_requests S i queued later is ∙ sym (append_nil (take (length (filter_map (call_to i) queued)) (setup_payloads S i))))
         ∙ ap (λ (k : ℕ). (take (length (filter_map (call_to i) queued)) (setup_payloads S i) ++ []) ++ call_text k Stop ∷ []) (let e : length (filter_map (call_to i) queued) ≡ length (filter_map (call_to i) queued) + 0 = omega arith in e)
-
--- a link that was only closed, or not started, says nothing
-pub silence_says : (started : ℕ) (S : Scenario) (reply : Replies) (log : List LogEntry) (i : ℕ) (l : LinkNo) → said_on l log ≡ [] → SaysRight (exchange started S reply log) None i l 0 [] false
-silence_says started S reply log i l silent = record { handshake = omega arith; behind = inl refl; said = ([], sym silent ∙ sym (append_nil (said_on l log))); framed = tt; as_executed = λ P e. absurd (none_some e) }

@@ -43,13 +43,6 @@ moved_one entries given C D s w v there now others moved foreign i = elim (same_
     still None e apart = tt
     still (Some u) e apart = channel_left entries u (foreign i u apart e)
 
--- a place that is set, and the others
-pub channel_set : (C D : CrewState) (s : ℕ) (old : Option Channel) (v : Channel) → slice_get C.channels s ≡ Some old → D.channels ≡ slice_set C.channels s (Some v) → (channel_at D s ≡ Some v) × ((i : ℕ) → (i ≡ s → ⊥) → channel_at D i ≡ channel_at C i)
-channel_set C D s old v there is = (
-  ap (λ (l : List (Option Channel)). option_and_then (λ (o : Option Channel). o) (slice_get l s)) is ∙ ap (λ (o : Option (Option Channel)). option_and_then (λ (p : Option Channel). p) o) (set_here C.channels s (Some v) old there),
-  (λ i apart. ap (λ (l : List (Option Channel)). option_and_then (λ (o : Option Channel). o) (slice_get l i)) is ∙ ap (λ (o : Option (Option Channel)). option_and_then (λ (p : Option Channel). p) o) (set_else C.channels s i (Some v) apart)),
-)
-
 -- ---- requests one after another
 
 calls_push : (i : ℕ) (done : List Request) (r : Request) → filter_map (call_to i) (done ++ r ∷ []) ≡ filter_map (call_to i) done ++ filter_map (call_to i) (r ∷ [])

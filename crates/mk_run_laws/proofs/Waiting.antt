@@ -22,13 +22,6 @@ moved_at_twice a b g h (Some u) (Some v) (Some w) one two = moved_twice a b g h 
 pub moved_on : (a b : List LogEntry) (g h : ℕ → List Message) (C D E : CrewState) → AreMoved a g C D → AreMoved b h D E → AreMoved (a ++ b) (λ i. g i ++ h i) C E
 moved_on a b g h C D E one two i = moved_at_twice a b (g i) (h i) (channel_at C i) (channel_at D i) (channel_at E i) (one i) (two i)
 
--- a poll adds no rest
-pub parked_polled : (entries more : List LogEntry) (C : CrewState) → AreParkedAtRests entries C → IsRestless more → AreParkedAtRests (entries ++ more) C
-parked_polled entries more C parked restless before after is i w there = elim (first_or_second entries more before after Rest is) [
-  | inl t ↦ parked before t.0 t.1 i w there
-  | inr t ↦ absurd (restless t.0 after t.2)
-]
-
 -- a rest comes where every channel is parked
 pub parked_rested : (entries : List LogEntry) (C D : CrewState) → AreParkedAtRests entries C → AreMoved entries (λ i. []) C D → ((i : ℕ) (w : Channel) → channel_at D i ≡ Some w → w.parked ≡ true) → AreParkedAtRests (entries ++ Rest ∷ []) C
 parked_rested entries C D parked moved all before after is i w there = elim (first_or_second entries (Rest ∷ []) before after Rest is) [

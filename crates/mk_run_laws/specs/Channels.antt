@@ -71,10 +71,8 @@ abbrev pub last_bytes : Channel → List ℕ
 last_bytes channel = channel.unsent ++ frame_of (call_text channel.next Stop)
 
 -- by these entries the channel was stopped: nothing was heard, and a beginning of its last bytes
--- was
--- said; all of them, but where a write took nothing or the count of faults rose; and a frame may
--- have
--- the stop's payload
+-- was said; all of them, but where a write took nothing or the count of faults rose; and a frame
+-- may have the stop's payload
 pub record IsStopped (entries : List LogEntry) (risen : Type 0) (channel : Channel) : Type 0 where
   pub unheard : heard_on channel.link entries ≡ []
   pub said : BeginsWith (last_bytes channel) (said_on channel.link entries)

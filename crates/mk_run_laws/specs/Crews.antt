@@ -1,6 +1,5 @@
 -- A crew: the channels of a run's simulators and the replies that are kept, and what its calls do
--- to
--- them.
+-- to them.
 use Rattle.std.specs.Prelude.{◌≡◌, ℕ, ◌==◌, true, List, [], ◌∷◌, ◌++◌, filter_map, Option, Some, None, option_and_then, slice_get, if◌then◌else◌, ⊤}
 use Rattle.mk_plan.specs.declared.Item.{Item}
 use Rattle.mk_plan.specs.declared.Message.{Message}
@@ -13,8 +12,7 @@ use Rattle.mk_run_laws.specs.Payloads.{IsFramed}
 use Rattle.mk_run_laws.specs.Channels.{Channel, IsMoved, queued, IsStopped}
 
 -- the channel of each simulator that has a link, and the replies of simulators within the program
--- that
--- were not heard yet, the oldest first
+-- that were not heard yet, the oldest first
 pub record CrewState : Type 0 where
   pub channels : List (Option Channel)
   pub kept : List Arrival

@@ -21,8 +21,7 @@ use Rattle.mk_run_laws.specs.Rests.{AllSetUp}
 use Rattle.mk_run_laws.specs.Crews.{CrewState, channel_at}
 
 -- over the log the channel of simulator i gave its setup replies and these messages, and these
--- items
--- were queued on it
+-- items were queued on it
 abbrev pub IsInStep : Scenario → Messages → List LogEntry → ℕ → List Message → List Item
     → Channel
     → Type 0
@@ -31,8 +30,7 @@ IsInStep S replies log i messages items w = IsChannelAt log (replies i
     ++ item_payloads (setup_count S i) items) (id_after (setup_count S i) items) w
 
 -- when the fleet rested behind these entries, the journal was a beginning of J, nobody was ready,
--- no
--- request was open within the program, and each channel was parked, in step with that journal
+-- no request was open within the program, and each channel was parked, in step with that journal
 pub record IsRestOf (started : ℕ) (S : Scenario) (replies : Messages) (P : Plan)
     (J : List Entry) (before : List LogEntry) : Type 0 where
   pub at : List Entry

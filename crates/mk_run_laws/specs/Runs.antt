@@ -59,10 +59,9 @@ pub record IsLinkOfRun (S : Scenario) (replies : Messages) (J : List Entry)
       ⊎ ((last_write l log ≡ Some (NotSaid l)) ⊎ risen)
 
 -- the clause of a run on what is said to simulator i on its link, for every end of the call: a
--- beginning of the frames of the first requests of its handshake, of items, and of a stop, no payload
--- being longer than a frame's may be; items
--- only behind the whole handshake and where the plan is there, and these begin what sequential
--- execution sends it
+-- beginning of the frames of the first requests of its handshake, of items, and of a stop, no
+-- payload being longer than a frame's may be; items only behind the whole handshake and where the
+-- plan is there, and these begin what sequential execution sends it
 pub record SaysRight (X : Exchange) (plan : Option Plan) (i : ℕ) (l : LinkNo) (asked : ℕ)
     (items : List Item) (stopped : Bool) : Type 0 where
   pub handshake : asked ≤ setup_count X.scenario i

@@ -64,9 +64,6 @@ on_back entries more L M moved of = on_these (IsChannelLink L) more (these_back 
 pub restless_of : (L : Channels) (entries : List LogEntry) → AreOfLinks (IsChannelLink L) entries → IsRestless entries
 restless_of L = no_rests (IsChannelLink L)
 
-pub some_still : (entries : List LogEntry) (L M : Channels) → IsUnheard entries (crew L) (crew M) → ((i : ℕ) × IsLinked i L) → (i : ℕ) × IsLinked i M
-some_still entries L M u some = let w = some.1 in let m = moved_there entries [] (at L some.0) (at M some.0) w.0 w.1 (u.moved some.0) in (some.0, (m.0, m.1))
-
 -- the rests of calls after each other
 parked_on : (a b : List LogEntry) (C D : CrewState) → AreParkedAtRests a C → AreMoved a (λ i. []) C D → AreParkedAtRests b D → AreParkedAtRests (a ++ b) C
 parked_on a b C D one moved two before after is i w there = elim (first_or_second a b before after Rest is) [
@@ -200,12 +197,6 @@ silence_unrested L M N O old mid late new a b h s adds l more r = (
 
 pub open_parked : (a : List LogEntry) (M N : Channels) (open_links : List LinkNo) → LooksAs looked.Parked a M N → AreOpen M open_links → AreOpen N open_links
 open_parked a M N open_links l all = open_still a M N open_links (unheard_is a M N l.0 (unrested a (crew M) (restless_of M a l.1))) all
-
-pub open_quiet : (a : List LogEntry) (M N : Channels) (open_links : List LinkNo) → ListensAs listened.Quiet a M N → AreOpen M open_links → AreOpen N open_links
-open_quiet a M N open_links l all = open_still a M N open_links l.0 all
-
-pub some_quiet : (a : List LogEntry) (M N : Channels) → ListensAs listened.Quiet a M N → ((i : ℕ) × IsLinked i M) → (i : ℕ) × IsLinked i N
-some_quiet a M N l some = some_still a M N l.0 some
 
 -- ---- looks at all links, without a rest
 

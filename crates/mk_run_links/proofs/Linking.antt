@@ -67,9 +67,6 @@ front_or_last [] y (suc i) x e = cc
 front_or_last (z ∷ xs) y zero x e = inl e
 front_or_last (z ∷ xs) y (suc i) x e = elim (front_or_last xs y i x e) [ inl a ↦ inl a | inr b ↦ inr (ap suc b.0, b.1) ]
 
-pub none_listed : AreListed [] [] []
-none_listed = record { all = refl; paired = refl; placed = λ k sim l e. absurd (none_some e) }
-
 -- one more simulator, which has no link
 pub listed_without : (P : List (Option LinkNo)) (links : List LinkNo) (sims : List SimNo) → AreListed P links sims → AreListed (P ++ None ∷ []) links sims
 listed_without P links sims a = record {

@@ -41,15 +41,6 @@ use Rattle.mk_run_laws.proofs.Numbering.{bare_takes}
 
 -- ---- ids
 
-takes_bare : (item : Item) → takes_id (bare item) ≡ takes_id item
-takes_bare (Step at inputs advance) = refl
-takes_bare (GetData wanted) = refl
-takes_bare (Answer asked content) = refl
-takes_bare (Refuse asked reason) = refl
-
-abbrev count_step : Bool → Item → List Item → List Item
-count_step b item items = cond b (item ∷ items) items
-
 ids_bare : (id : ℕ) (items : List Item) → id_after id (map bare items) ≡ id_after id items
 ids_bare id items = ap (λ n. id + n) (bare_takes items)
 

@@ -31,10 +31,6 @@ position_push p xs y =
     let few = at_most p xs in
     grind (arith, nat_tests, pushed, longer, few)
 
-pub copied_there : (found : Option (Bor ℕ)) → is_some (option_copied found) ≡ is_some found
-copied_there None = refl
-copied_there (Some n) = refl
-
 none_there : (b : Bool) (first : ℕ) → is_some (cond b (Some first) None) ≡ false → b ≡ false
 none_there true first h = h
 none_there false first h = refl

@@ -54,13 +54,6 @@ no_end end e = absurd (none_some (sym e))
 pub taken_failed : (P : Plan) (J : List Entry) (K : Derived) → IsDerived P J K None → (sim : SimNo) (m : Message) (e : Mem) (L : Derived) (M : List Entry) → M ≡ J → HasTaken P J sim m (Err e) L M
 taken_failed P J K derived sim m e L M same = record { derived = ended_derived P J K derived M L OutOfMemory same; ok = tt; err = same }
 
-pub taken_full : (P : Plan) (J : List Entry) (K : Derived) → IsDerived P J K None → (sim : SimNo) (m : Message) → length J ≡ P.entries → HasTaken P J sim m (Ok (taken.Fault (TooLong P.entries))) K J
-taken_full P J K derived sim m full = record {
-  derived = ended_derived P J K derived J K (Faulty (TooLong P.entries)) refl;
-  ok = inr (inl (record { going = refl; named = refl; full = full; ended = refl }));
-  err = tt;
-}
-
 -- what follows a message is in the journal
 pub taken_pushed : (P : Plan) (J : List Entry) (K : Derived) → IsDerived P J K None → (sim : SimNo) (m : Message) (u : Upshot) (L : Derived) → Leaves P J sim m u L → (r : Result Taken Mem) (M : List Entry) → IfOk r (λ t. (t ≡ taken_by u) × (M ≡ entries_by J sim m u)) → IfErr r (λ _. M ≡ J) → HasTaken P J sim m r L M
 taken_pushed P J K derived sim m u L leaves (Ok t) M ok err =

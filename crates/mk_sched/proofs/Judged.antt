@@ -136,9 +136,6 @@ next_fits P i x id asks (Failure n text) run right = λ k e. absurd (none_some e
 
 -- ---- output times
 
-pub output_fits : (P : Plan) (i : ℕ) (x : Tier) (id n : ℕ) (content : Json) → wrong P i (Fetching x id) (Success n content) ≡ None → ForSome (option_and_then whole_in (time_in content)) (λ n. FitsSigned w64 n)
-output_fits P i x id n content right = right_output_time_fits (wanted P i) x content (right_data_reply P i x id n content right).1
-
 -- the data of a right reply are right, and in range where the message is
 pub fetched_right : (P : Plan) (V : View) (s : ℕ) (m : Message) (x : Tier) (content : Json) → EndsFetch P V s m x → content_of m ≡ Some content → wrong_data (wanted P s) x content ≡ None
 fetched_right P V s m x content ends is = go m (subst (λ (p : Place). wrong P s p m ≡ None) ends.judged.same ends.judged.right.right) is

@@ -121,9 +121,6 @@ last_more [] all (suc i) = refl
 last_more (x ∷ l) all zero = all zero
 last_more (x ∷ l) all (suc i) = last_more l (λ j. all (suc j)) i
 
-pub lasts_none : (l : List (Option Tier)) → l ≡ [] → AreNone 0 l
-lasts_none l is = record { count = ap length is; none = λ i. ap (λ (k : List (Option Tier)). last_in k i) is }
-
 pub lasts_more : (l m : List (Option Tier)) (k : ℕ) → m ≡ l ++ None ∷ [] → AreNone k l → AreNone (k + 1) m
 lasts_more l m k grown h = record {
   count = ap length grown ∙ length-append l (None ∷ []) ∙ omega (arith, h.count);
@@ -153,9 +150,6 @@ module _ (P : Plan) (k : ℕ) (sim : PlanSim) (there : slice_get P.sims k ≡ So
     where
       below : (i : ℕ) → (i ≡ k → ⊥) → i < k + 1 → i < k
       below i n under = elim (cases_lt i k) [ inl l ↦ l | inr g ↦ absurd (n (omega (arith, g, under))) ]
-
-pub begun_none : (P : Plan) (B : Seen) → AreOfPlan P B → ((i : ℕ) → start_in B i ≡ None) → ((i : ℕ) → is_busy_in B i ≡ false) → AreBegun P 0 [] [] B
-begun_none P B of none idle = record { plan = of; queues = refl; opens = refl; none_open = λ i. refl; none_busy = idle; starts = λ i low. absurd (omega (arith, low)); later = λ i _. none i }
 
 -- ---- all simulators
 

@@ -39,13 +39,6 @@ set_back [] i q is = refl
 set_back (p ∷ Q) zero q is = ap (λ (r : List Due). r ∷ Q) is
 set_back (p ∷ Q) (suc i) q is = ap (λ (R : List (List Due)). p ∷ R) (set_back Q i q is)
 
--- a queue that was borrowed and not changed
-pub tidy_back : (Q : List (List Due)) (O : List Bool) (B : Seen) (i : ℕ) (q r : List Due) → q ≡ get_or Q i q → r ≡ q → IsTidy Q O B → IsTidy (slice_set Q i r) O B
-tidy_back Q O B i q r is same tidy = subst (λ (R : List (List Due)). IsTidy R O B) (sym (ap (slice_set Q i) same ∙ set_back Q i q is)) tidy
-
-pub count_set : (Q : List (List Due)) (i : ℕ) (q : List Due) → length (slice_set Q i q) ≡ length Q
-count_set Q i q = length_set Q i q
-
 -- ---- within the limits
 
 abbrev pub AreOwn : List Due → Type 0

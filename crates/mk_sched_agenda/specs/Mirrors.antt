@@ -37,8 +37,8 @@ pub record IsOfPlan (P : Plan) (A : AgendaState) : Type 0 where
   pub bounds : AreOfPlan P A.bounds
 
 -- the steps to come of each simulator are those that are due and that it has not been asked for,
--- marked where something that came triggers them;
--- last steps and starts are those of the view, and starts are outstanding where a turn is open
+-- marked where something that came triggers them; last steps and starts are those of the view, and
+-- starts are outstanding where a turn is open
 pub record Mirrors (P : Plan) (V : View) (A : AgendaState) : Type 0 where
   pub plan : IsOfPlan P A
   pub queues : (i : ℕ) → i < sim_count P → Pends P time_of flag_of V i (queue_in A.queues i)

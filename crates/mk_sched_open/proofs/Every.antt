@@ -31,15 +31,6 @@ use Rattle.mk_base.proofs.Items.{get_map}
 
 -- ---- of a view, they depend on acts and open turns alone, and they hold in longer journals
 
-pub sims_alike : (P : Plan) (V W : View) (n : ℕ) (sims : List Sim) → ((i : ℕ) → W.acts i ≡ V.acts i) → ((i : ℕ) → W.open_at i ≡ V.open_at i) → AreSimsOf P V n sims → AreSimsOf P W n sims
-sims_alike P V W n sims acts opens h = record {
-  count = h.count;
-  each = λ i s there. subst (λ (l : List Act). IsSimOf P l (W.open_at i) n i s) (sym (acts i)) (subst (λ (o : Option OpenTurn). IsSimOf P (V.acts i) o n i s) (sym (opens i)) (h.each i s there));
-}
-
-pub sims_more : (P : Plan) (V : View) (n m : ℕ) (sims : List Sim) → n ≤ m → AreSimsOf P V n sims → AreSimsOf P V m sims
-sims_more P V n m sims le h = record { count = h.count; each = λ i s there. sim_more P (V.acts i) (V.open_at i) n m i s le (h.each i s there) }
-
 -- ---- one simulator moves on, and the others stay as they are
 
 module _ (P : Plan) (V W : View) (n m : ℕ) (sims : List Sim) (h : AreSimsOf P V n sims) (le : n ≤ m) (i : ℕ) (s new : Sim) (there : slice_get sims i ≡ Some s) (is : IsSimOf P (W.acts i) (W.open_at i) m i new)
@@ -155,10 +146,6 @@ module _ (P : Plan) (valid : IsValidPlan P) where
 
   pub new_sims : AreSimsOf P empty_view 0 (map sim_of P.sims)
   new_sims = record { count = length-map P.sims sim_of; each = first_sim }
-
--- one more simulator
-pub sim_added : (sims : List PlanSim) (n : ℕ) (p : PlanSim) → n < length sims → p ≡ get_or sims n p → map sim_of (take n sims) ++ sim_of p ∷ [] ≡ map sim_of (take (n + 1) sims)
-sim_added sims n p low is = ap (λ (t : PlanSim). map sim_of (take n sims) ++ sim_of t ∷ []) is ∙ sym (map_append sim_of (take n sims) (get_or sims n p ∷ [])) ∙ ap (map sim_of) (sym (take_more sims n p low))
 
 -- no more simulators
 pub take_whole : (sims : List PlanSim) (n : ℕ) → length sims ≤ n → take n sims ≡ sims

@@ -24,16 +24,6 @@ use Rattle.mk_sched_open.specs.Turns.{IsRight, IsInRun}
 use Rattle.mk_base.specs.Limits.{latest_end}
 use Rattle.mk_base.proofs.Bools.{both_hold}
 
--- a message that is right at the place of what is open is right in an open turn
-pub right_turn : (P : Plan) (V : View) (s : ℕ) (m : Message) (place : Place) (q : Option Place) → place ≡ place_at (V.open_at s) → wrong P s place m ≡ None → next_place P s place m ≡ q → (T : OpenTurn) × IsRight P V s m T q
-right_turn P V s m place q is right goes = go (V.open_at s) refl
-  where
-    go : (o : Option OpenTurn) → V.open_at s ≡ o → (T : OpenTurn) × IsRight P V s m T q
-    go None e = absurd (none_some (sym right ∙ ap (λ (p : Place). wrong P s p m) (is ∙ ap place_at e)))
-    go (Some T) e =
-        let same : T.place ≡ place = sym (is ∙ ap place_at e) in
-        (T, record { opened = e; right = ap (λ (p : Place). wrong P s p m) same ∙ right; goes = ap (λ (p : Place). next_place P s p m) same ∙ goes })
-
 -- the view after a right message
 pub noted_right : (P : Plan) (V : View) (s : SimNo) (m : Message) (T : OpenTurn) (q : Option Place) → IsRight P V s.0 m T q → note P V (Got s m) ≡ note_right P V s.0 m T q
 noted_right P V s m T q h =
@@ -45,13 +35,6 @@ noted_right P V s m T q h =
 pub noted_wrong : (P : Plan) (V : View) (s : SimNo) (m : Message) (place : Place) (c : Cause) → place ≡ place_at (V.open_at s.0) → wrong P s.0 place m ≡ Some c
     → note P V (Got s m) ≡ record { acts = V.acts; open_at = V.open_at; owed = V.owed; fault = Some (fault_of V s.0 c) }
 noted_wrong P V s m place c is wrongly = ap (note_got P V s.0 m (V.open_at s.0)) (ap (λ (p : Place). wrong P s.0 p m) (sym is) ∙ wrongly)
-
--- the place of its fault is how many right messages came before
-pub wrong_place : (V : View) (s count n : ℕ) → count ≡ length (heard V s) → fault_of V s (Wrong n) ≡ WrongMessage s count n
-wrong_place V s count n is = ap (λ (k : ℕ). WrongMessage s k n) (sym is)
-
-pub failed_place : (V : View) (s count : ℕ) → count ≡ length (heard V s) → fault_of V s Failed ≡ FailedSim s count
-failed_place V s count is = ap (FailedSim s) (sym is)
 
 -- the step that a simulator may be asked for is within the run
 pub in_run : (P : Plan) → IsValidPlan P → (J : List Entry) → IsOrderlySoFar IsReady IsAdvance P J → (s : ℕ) (x : Tier) → IsReady P (view P J) s x → IsInRun x

@@ -30,19 +30,6 @@ use Rattle.mk_sched_open.specs.inner.Changes.{begun_sim, gone_on, open_id, ended
 
 -- ---- the place that is kept is that of what is open
 
-pub turn_place : (free n : ℕ) (s : Sim) (o : Option OpenTurn) → IsTurn free n s o → s.place ≡ place_at o
-turn_place free n s None turn = turn.place
-turn_place free n s (Some T) turn = sym turn.place
-
-pub turn_run : (free n : ℕ) (s : Sim) (o : Option OpenTurn) → n ≤ 20000000 → IsTurn free n s o → IsPlaceInRun s.place
-turn_run free n s None most turn = subst IsPlaceInRun (sym turn.place) tt
-turn_run free n s (Some T) most turn = at s.place turn.open_at
-  where
-    at : (p : Place) → IsOpenBy free n s.next p T → IsPlaceInRun p
-    at Idle h = tt
-    at (Stepping x id asks) h = (h.run, let few : id + 1 ≤ 1000000 + n = h.few in omega (arith, most))
-    at (Fetching x id) h = (h.run, let few : id + 1 ≤ 1000000 + n = h.few in omega (arith, most))
-
 -- ---- bounds rise with the journal
 
 pub turn_more : (free n m : ℕ) (s : Sim) (o : Option OpenTurn) → n ≤ m → IsTurn free n s o → IsTurn free m s o

@@ -99,14 +99,6 @@ ready U V P going resting at p same = record { going = going; resting = resting;
 pub at_end : (U : SetupState) (ids : List ℕ) (plan : Option Plan) → IsSoundSetup U ids plan → length U.scenario.sims + length U.scenario.groups + length U.scenario.sims ≤ U.answered → U.answered ≡ length U.scenario.sims + length U.scenario.groups + length U.scenario.sims
 at_end U ids plan s late = let c = request_count U.scenario in let w = s.within in omega arith
 
--- a plan that is there has passed
-pub kept_passes : (U : SetupState) (plan : Option Plan) → IfSome plan (IsPlanOf U) → is_some plan ≡ true → refusal (plan_of U) ≡ None
-kept_passes U None h e = absurd (true≢false (sym e))
-kept_passes U (Some P) h e = ap refusal h.made
-
-pub kept_plan : (U : SetupState) (plan : Option Plan) (P : Plan) → IfSome plan (IsPlanOf U) → plan ≡ Some P → IsPlanOf U P
-kept_plan U plan P h e = subst (λ (o : Option Plan). IfSome o (IsPlanOf U)) e h
-
 -- a fault that stands in the way, and what is kept of it
 pub unready_by : (U W : SetupState) (f e : SetupFault) (kept : Option SetupFault) → U.fault ≡ None → IsHindered U f W → ((e ≡ fault.Mem) × (kept ≡ None)) ⊎ ((e ≡ f) × (kept ≡ Some f) × (f ≢ fault.Mem)) → GivesNoRequest U e (record W { fault = kept })
 unready_by U W f e kept going h (inl t) = inl (t.0, (λ i. record (h.same i) { fault = (t.1 ∙ sym going) i }))

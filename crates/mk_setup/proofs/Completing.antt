@@ -57,11 +57,3 @@ pub plan_result : (U : SetupState) (ids given : List ℕ) (plan : Option Plan) (
     → IfOk r (λ P. plan_made U.scenario U.ranks U.metas U.entities given ≡ Ok P) → IfOk r (λ P. IsComplete U.scenario U.ranks U.metas U.entities given → IsValidPlan P) → IfOk r (λ P. IsPlanOf U P)
 plan_result U ids given plan (Ok P) s late are made valid = plan_ok U ids plan P s late (ap (plan_made U.scenario U.ranks U.metas U.entities) (sym are) ∙ made) (λ c. valid (subst (IsComplete U.scenario U.ranks U.metas U.entities) (sym are) c))
 plan_result U ids given plan (Err e) s late are made valid = tt
-
-pub plan_refused : (U : SetupState) (given : List ℕ) (r : Result Plan ConnectFault) → given ≡ first_ids U.scenario → IfErr r (λ e. IsFaultOf (plan_made U.scenario U.ranks U.metas U.entities given) e) → IfErr r (λ e. IsFaultOf (plan_of U) e)
-plan_refused U given (Ok P) are h = tt
-plan_refused U given (Err e) are h = subst (λ (l : List ℕ). IsFaultOf (plan_made U.scenario U.ranks U.metas U.entities l) e) are h
-
--- a plan that is there passes its test
-pub no_refusal : (U : SetupState) (P : Plan) → IsPlanOf U P → refusal (plan_of U) ≡ None
-no_refusal U P p = ap refusal p.made

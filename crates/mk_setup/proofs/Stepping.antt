@@ -109,36 +109,6 @@ asked_stands U ids plan r s is none = record {
   kept = kept_same U (record U { asked = true }) plan s.kept (λ P p. record { created = p.created; made = p.made; valid = p.valid; sims = p.sims; first = p.first });
 }
 
-pub planned_stands : (U : SetupState) (ids : List ℕ) (plan : Option Plan) (P : Plan) → IsSoundSetup U ids plan → IsPlanOf U P → IsSoundSetup U ids (Some P)
-planned_stands U ids plan P s p = record {
-  wellformed = s.wellformed;
-  ranked = s.ranked;
-  within = s.within;
-  awaited = s.awaited;
-  tested = s.tested;
-  numbered = s.numbered;
-  said = s.said;
-  listed = s.listed;
-  of_models = s.of_models;
-  of_groups = s.of_groups;
-  kept = p;
-}
-
-pub given_stands : (U : SetupState) (ids : List ℕ) (plan : Option Plan) → IsSoundSetup U ids plan → IsSoundSetup U ids None
-given_stands U ids plan s = record {
-  wellformed = s.wellformed;
-  ranked = s.ranked;
-  within = s.within;
-  awaited = s.awaited;
-  tested = s.tested;
-  numbered = s.numbered;
-  said = s.said;
-  listed = s.listed;
-  of_models = s.of_models;
-  of_groups = s.of_groups;
-  kept = tt;
-}
-
 each_append : {X : Type 0} → (Q : X → Type 0) (xs ys : List X) → Each Q xs → Each Q ys → Each Q (xs ++ ys)
 each_append Q [] ys a b = b
 each_append Q (x ∷ xs) ys a b = (a.0, each_append Q xs ys a.1 b)

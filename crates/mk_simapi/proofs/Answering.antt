@@ -16,20 +16,6 @@ use Rattle.mk_base.specs.Lists.{same_text}
 use Rattle.mk_simapi.specs.Requests.{call_in, data_in, item_in, step_in}
 use Rattle.mk_base.proofs.Guessing.{text_is}
 
--- a call that isn't a stop gets a reply
-pub is_replied : (call : Call) → is_stop_call call ≡ false → IsCallReplied call
-is_replied (Init sim params) e = tt
-is_replied (Create num model params) e = tt
-is_replied SetupDone e = tt
-is_replied Stop e = cc
-
--- a stop leaves the simulator as it is
-pub stop_leaves : (L : Simulator) (call : Call) → is_stop_call call ≡ true → after_call L call ≡ L
-stop_leaves L (Init sim params) e = cc
-stop_leaves L (Create num model params) e = cc
-stop_leaves L SetupDone e = cc
-stop_leaves L Stop e = refl
-
 module _ (L : Simulator) (id : ℕ) (name : List ℕ) (args : List Json) (named : Json) where
   pub called : (a : Answer) (call : Call) → Some call ≡ call_in name args named → CallsAs a L id call → AnswersAs a L (Ask id name args named)
   called (answer.Reply payload) call e c = (ap stops_by (sym e) ∙ c.0, c.1, ap (call_answer L id (item_in name args named)) (sym e) ∙ c.2, c.3)

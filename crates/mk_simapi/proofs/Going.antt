@@ -1,6 +1,6 @@
 -- The replies to messages one after another.
 use Rattle.std.proofs.Common.{◌≡◌, ℕ, Bool, true, false, List, [], ◌∷◌, ◌++◌, map, fold, Option, Some, None, option_to_list, refl, sym, ap, ◌∙◌, append_assoc, if◌then◌else◌}
-use Rattle.mk_base.specs.Lists.{BeginsWith, Each}
+use Rattle.mk_base.specs.Lists.{BeginsWith}
 use Rattle.mk_base.proofs.Lists.{append_nil, map_append}
 use Rattle.mk_plan.specs.declared.Message.{Message}
 use Rattle.mk_frame.specs.Frames.{frames_of}
@@ -24,11 +24,6 @@ replies_more L (x ∷ ms) m (first, rest) e =
     ∙ ap (λ (r : List Message). one ++ r) (replies_more N ms m rest e)
     ∙ sym (append_assoc one (replies N ms) (option_to_list (reply_to (fold after_message N ms) m)))
     ∙ ap (λ (b : Bool). unless b (one ++ replies N ms) ++ option_to_list (reply_to (fold after_message N ms) m)) (sym first)
-
--- a stop, whatever follows it
-pub replies_stop : (L : Simulator) (ms later : List Message) (m : Message) → NoStop ms → is_stop m ≡ true → replies L (ms ++ m ∷ later) ≡ replies L ms
-replies_stop L [] later m going e = ap (λ (b : Bool). unless b (option_to_list (reply_to L m) ++ replies (after_message L m) later)) e
-replies_stop L (x ∷ ms) later m (first, rest) e = ap (λ (r : List Message). unless (is_stop x) (option_to_list (reply_to L x) ++ r)) (replies_stop (after_message L x) ms later m rest e)
 
 -- more messages, more replies
 replies_begin : (L : Simulator) (ms later : List Message) → BeginsWith (replies L (ms ++ later)) (replies L ms)
@@ -59,9 +54,6 @@ payloads_same L ms m going e none = ap (map message_text) (replies_more L ms m g
 
 pub payloads_more : (L : Simulator) (ms : List Message) (m r : Message) → NoStop ms → is_stop m ≡ false → reply_to (fold after_message L ms) m ≡ Some r → payloads L (ms ++ m ∷ []) ≡ payloads L ms ++ message_text r ∷ []
 payloads_more L ms m r going e some = ap (map message_text) (replies_more L ms m going e ∙ ap (λ (o : Option Message). replies L ms ++ option_to_list o) some) ∙ map_append message_text (replies L ms) (r ∷ [])
-
-pub payloads_stop : (L : Simulator) (ms later : List Message) (m : Message) → NoStop ms → is_stop m ≡ true → payloads L (ms ++ m ∷ later) ≡ payloads L ms
-payloads_stop L ms later m going e = ap (map message_text) (replies_stop L ms later m going e)
 
 -- the simulator after one more
 pub after_more : (L : Simulator) (ms : List Message) (m : Message) → fold after_message L (ms ++ m ∷ []) ≡ after_message (fold after_message L ms) m

@@ -30,9 +30,6 @@ module _ (P Q : Plan) (A : List Arrival) (s : Option (List Asked)) (J : List Ent
       let so : ReplaysTo bytes P J = record { arrivals = A; steps = s; read = read; valid = valid; done = done } in
       subst (λ (X : Plan). ReplaysTo bytes X J) (sym same) so
 
-pub record_here : (P : Plan) (A : List Arrival) (s : Option (List Asked)) (bytes : List ℕ) → reading bytes ≡ Said P A s → IsRecord bytes
-record_here P A s bytes read = record { plan = P; arrivals = A; steps = s; read = read }
-
 module _ (first second : List ℕ) where
   pub first_unfinished : (e : Ending) → IsRecord second → IsNotDone first None e → IsUnblamed first second e
   first_unfinished e is (inl wanting) = inl (inl wanting)

@@ -28,12 +28,6 @@ use Rattle.mosaikrun_program.specs.Program.{EndedAs}
 use Rattle.mosaikrun_program.proofs.Playing.{performed}
 use Rattle.mk_session.proofs.Polling.{risen_after}
 
--- the text was saved, or wasn't
-pub saved_or_not : (folder : FolderSeen) (mid : Option Files) (risen : ℕ) (name text : List ℕ) (answer : Result (Unit {0}) Ending) → mid ≡ folder.files → folder.faults ≤ risen
-    → OnOk answer (folder.files_after ≡ option_map (with_file name text) mid) → OnErr answer (folder.files_after ≡ mid) → IfErr answer (λ e. ((e ≡ Folder) × HasRisen risen folder.new_faults) ⊎ (e ≡ Mem)) → SaveAnswer folder name (Ok text) answer
-saved_or_not folder mid risen name text (Ok done) same low kept unsaved cause = kept ∙ ap (option_map (with_file name text)) same
-saved_or_not folder mid risen name text (Err e) same low kept unsaved cause = (unsaved ∙ same, elim cause [ inl failed ↦ inl (failed.0, risen_after folder.faults risen folder.new_faults low failed.1) | inr mem ↦ inr mem ])
-
 -- the command that was asked for has come to this text, and the fleet wasn't used
 pub has_made : (S : Around) (command : FileCommand) (text : Result (List ℕ) Ending) (answer : Result (Unit {0}) Ending) → IsAsked S.words (Reads command) → ComesOfFiles S.folder.files S.outside.kinds S.rules command text → TextAnswer S (target_of command) text answer
     → S.outside.log ≡ [] → S.outside.new_faults ≡ S.outside.faults → EndedAs S answer

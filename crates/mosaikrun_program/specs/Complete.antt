@@ -39,7 +39,8 @@ use Rattle.mosaikrun_program.specs.Program.{IsStatusOr}
 
 -- nothing went wrong: the bytes are a scenario that has ranks, and each simulator of which can be
 -- begun; its handshake shows no fault; and neither does a run of it: no message is wrong in its
--- place, no limit is met, no link ends, no frame is garbled or too long, no count rises
+-- place, no limit is met, no link ends, no frame is garbled or too long, no item is too long for one,
+-- no count rises
 pub record IsFaultlessStudy (O : Outside) (bytes : List ℕ) : Type 0 where
   pub scenario : Scenario
   pub ranks : List ℕ
@@ -75,7 +76,7 @@ pub record IsRightRecord (P : Plan) (old : Saved) : Type 0 where
 -- by the plan that its answers make, those of simulators with a link being the first messages that
 -- were heard there; and a resumed run shows no fault: each simulator repeats its saved messages, and
 -- then no message is wrong in its place, no limit is met, no link ends, no frame is garbled or too
--- long, no count rises
+-- long, no item is too long for one, no count rises
 pub record IsFaultlessResume (O : Outside) (bytes recorded : List ℕ) : Type 0 where
   pub scenario : Scenario
   pub ranks : List ℕ
@@ -110,7 +111,7 @@ EndsResume C n = IfSome C.folder.files (λ held. (scenario recorded : List ℕ)
 
 -- nothing went wrong, but that a Step may be too late: the bytes are such a scenario, whose handshake
 -- shows no fault, and neither does a paced run of it: no message is wrong in its place, no limit is
--- met, no link ends, no frame is garbled or too long, no count rises
+-- met, no link ends, no frame is garbled or too long, no item is too long for one, no count rises
 pub record IsFaultlessPacedStudy (O : Outside) (factor : ℕ) (strict : Option ℕ)
     (bytes : List ℕ) : Type 0 where
   pub scenario : Scenario

@@ -132,8 +132,8 @@ pub record IsRightStudy (C : Around) (form : Form) (S : Scenario) (saved : Optio
   pub run : IfSome plan (IsRightRunBy C form S saved n)
 
 -- nothing was run: nothing was said or heard on any link, the fleet's count of faults didn't rise,
--- nothing was put out, and no file was saved. The status is 3, where a file isn't there, is too long
--- or is refused; 6, where the folder failed; or 8, where memory was wanting
+-- nothing was put out, and no file was saved. The status is 3; 6, the folder's count of faults having
+-- risen; or 8. What each of them came from, `ended` says
 pub record NothingWasRun (C : Around) (n : ℕ) : Type 0 where
   pub untouched : IsUntouched C
   pub status : (n ≡ 3)

@@ -23,9 +23,9 @@ use Rattle.mosaikrun_sayings.specs.Sayings.{ids_of}
 use Rattle.mosaikrun_resume.specs.Sayings.{resume_saying}
 
 -- the handshake was made, with this plan, which the answers make that were heard on the links and
--- those of kinds, and the record wasn't taken: its plan is another; an entry
--- of it isn't the journal's that its messages make; these met a fault of the core, with the journal
--- up to there; or memory was wanting. Nothing was said on the links but the handshake and a stop
+-- those of kinds, and the record wasn't taken: its plan is another; an entry of it isn't the
+-- journal's that its messages make; these met a fault of the core, with the journal up to there; or
+-- memory was wanting. Nothing was said on the links but the handshake and a stop
 pub record IsNotTaken (O : Outside) (S : Scenario) (ranks : List ℕ) (saved : Saved)
     (text : Result (List ℕ) Ending) (kept : Option (List ℕ)) : Type 0 where
   pub plan : Plan

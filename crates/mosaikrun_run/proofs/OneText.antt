@@ -67,10 +67,6 @@ to_each : (f : ℕ × SimPart → Request) → ((p : ℕ × SimPart) → (f p).s
 to_each f names n k [] fits = tt
 to_each f names n k (s ∷ sims) fits = (omega (arith, names (k, s), fits), to_each f names n (k + 1) sims (omega (arith, fits)))
 
-to_groups : (n : ℕ) (groups : List Group) → Each (IsWellformedGroup n) groups → Each (λ (r : Request). r.sim < n) (map (λ (g : Group). record { sim = g.sim.0; call = Create g.num g.model g.params }) groups)
-to_groups n [] all = tt
-to_groups n (g ∷ groups) all = (all.0.sim, to_groups n groups all.1)
-
 -- ---- one plan
 
 pub one_answers : (rows : List Turn) (S : Scenario) → IsWellformed S → is_wholly_within S ≡ true → (answers also : List Message) → length answers ≡ length (setup_requests S) → length also ≡ length (setup_requests S) → AreKindAnswers rows S answers → AreKindAnswers rows S also → answers ≡ also

@@ -1,5 +1,5 @@
 -- What `clap` makes of words in one spelling.
-use Rattle.std.proofs.Common.{◌≡◌, ◌==◌, Bool, true, false, not, List, [], ◌∷◌, Option, Some, is_some, Result, Ok, Err, IfOk, codes, refl, sym, ap, ◌∙◌, subst, true≢false}
+use Rattle.std.proofs.Common.{◌≡◌, ◌==◌, true, List, [], ◌∷◌, Option, Some, is_some, Result, Ok, Err, IfOk, codes, refl, sym, ap, ◌∙◌, subst, true≢false}
 use Rattle.clap.proofs.OnLiterals.{clap_on_literals}
 use Rattle.clap.proofs.WalkLemmas.{first_value-rows}
 use Rattle.clap.specs.Words.{App, HasMatchesOf, first_of, first_value, found_of, is_simple, matches_of, takes}

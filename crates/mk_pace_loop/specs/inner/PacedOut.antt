@@ -54,8 +54,7 @@ pub record HasGivenPaced (S : Setting) (J : List Entry) (log : List LogEntry) (C
   pub none_held : first_message channel.channel.held ≡ None
 
 -- a message was heard on a link that the journal hasn't got: the channel gave it behind those that
--- the
--- journal got, and the items queued on it are the first of the journal's
+-- the journal got, and the items queued on it are the first of the journal's
 pub record IsAheadPaced (S : Setting) (J : List Entry) (log : List LogEntry)
     (C : CrewState) : Type 0 where
   pub sim : SimNo

@@ -30,8 +30,7 @@ use Rattle.mk_resume_loop.specs.Resumed.{IsCutOff, IsFull, IsLongFree, IsRunWait
 use Rattle.mk_resume_loop.specs.inner.Underway.{saved_of}
 
 -- a channel at the end: the messages that it gave go on from those that were sent again, and the
--- items
--- queued on it are the first of those that are free
+-- items queued on it are the first of those that are free
 pub record IsLastChannel (T : Setting) (J : List Entry) (heard : Counts) (log : List LogEntry)
     (C : CrewState) (end : ResumeEnd) (i : ℕ) (l : LinkNo) : Type 0 where
   pub messages : List Message
