@@ -36,14 +36,6 @@ order_push (c ∷ bs) b rises less = (
 )
 
 module _ (J K : List Entry) where
-  pub judged_first : IsJudged J K 0 true []
-  judged_first = record {
-    same = λ e i low. absurd (omega (arith, low));
-    differ = λ e. absurd (true≢false e);
-    each = λ b inside. absurd inside;
-    alike = λ i low. absurd (omega (arith, low));
-    in_order = tt;
-  }
 
   module _ (i : ℕ) (equal : Bool) (bs new : List Blamed) (before : IsJudged J K i equal bs) where
     -- a simulator whose talks are equal

@@ -192,8 +192,6 @@ set_same (z ∷ zs) (suc i) x y there is same = ap (λ l. z ∷ l) (set_same zs 
 -- ---- set values and slots
 
 module _ (P : Plan) (s : ℕ) (m : Tier) (g : Gift) where
-  given_one : Input → List Timed
-  given_one k = given_for P s k (g ∷ [])
 
   pub given_more : (k : Input) (all : List Gift) → given_for P s k (all ++ g ∷ []) ≡ given_for P s k all ++ given_for P s k (g ∷ [])
   given_more k [] = refl

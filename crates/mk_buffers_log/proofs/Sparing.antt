@@ -175,9 +175,6 @@ module _ (vias : List Via) (until : ℤ) (mark : Tier) where
   abbrev pub IsSifted : List Timed → ℕ → Type 0
   IsSifted ts p = (k : ℕ) → k < p → IsNeeded vias until mark ts k
 
-  pub sifted_none : (ts : List Timed) → IsSifted ts 0
-  sifted_none ts k low = absurd (omega (arith, low))
-
   pub sifted_more : (ts : List Timed) (p : ℕ) → IsNeeded vias until mark ts p → IsSifted ts p → IsSifted ts (p + 1)
   sifted_more ts p needed sifted k low = go (order_of k p)
     where

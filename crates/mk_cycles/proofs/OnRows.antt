@@ -8,10 +8,6 @@ use Rattle.mk_cycles.specs.declared.ranking.Edge.{Edge}
 use Rattle.mk_cycles.specs.Edges.{has_edge, EndsBelow}
 use Rattle.mk_cycles.specs.inner.Tables.{is_set}
 
--- an edge is from p to s
-is_from_to : ℕ → ℕ → Edge → Bool
-is_from_to p s e = eqb e.from.0 p && eqb e.to.0 s
-
 -- places in different rows or columns differ
 place_apart : (n p s q t : ℕ) → p < n → q < n → s * n + p ≡ t * n + q → (s ≡ t) × (p ≡ q)
 place_apart n p s q t p_under q_under same = (

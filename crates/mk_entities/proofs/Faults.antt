@@ -9,12 +9,6 @@ use Rattle.mk_entities.specs.Creation.{entity_fault, first_there}
 use Rattle.mk_entities.specs.inner.Making.{fault_at, named_from, number_in}
 use Rattle.mk_base.proofs.Items.{get_at_place}
 
-module _ {X : Type 0} where
-  pub skip_none : (xs ys : List (Option X)) → first_there xs ≡ None → first_there (xs ++ ys) ≡ first_there ys
-  skip_none [] ys none = refl
-  skip_none (None ∷ xs) ys none = skip_none xs ys none
-  skip_none (Some x ∷ xs) ys none = cc
-
 module _ {X : Type 0} (f : ℕ → Option X) where
   none_from : (a n : ℕ) → ((k : ℕ) → a ≤ k → k < a + n → f k ≡ None) → first_there (map f (range_with_len a n)) ≡ None
   none_from a zero none = refl

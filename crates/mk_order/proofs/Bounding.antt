@@ -22,7 +22,7 @@ use Rattle.mk_plan.specs.Orderly.{IsOrderlySoFar}
 use Rattle.mk_order.proofs.Reasons.{least_is, is_least}
 use Rattle.mk_order.proofs.Exact.{IsBoundBy, bounded}
 use Rattle.mk_order.proofs.EntityNames.{owner_is_below}
-use Rattle.mk_order.proofs.Tables.{start_beyond, IsOuterTime, some_advance}
+use Rattle.mk_order.proofs.Tables.{start_beyond, IsOuterTime}
 
 -- those that a walk may not touch: those of a set, and all from k on
 abbrev pub Barred : (ℕ → Bool) → ℕ → ℕ → Type 0
@@ -259,90 +259,3 @@ module _ (P : Plan) where
             let t = tables starts in
             let u = tables (again k e starts t.0 t.1) in
             (joined k e starts t.0 t.1 u.0 u.1, joined_table k e starts t.0 t.1 u.0 u.1)
-
--- ---- at a valid plan
-
-module _ (P : Plan) (valid : IsValidPlan P) (starts : ℕ → Option Tier) (none : (i : ℕ) → sim_count P ≤ i → starts i ≡ None) where
-  edges_wide : (j : ℕ) (v : Via) (i : ℕ) → IsEdge P j v i → HasWidth v
-  edges_wide j v i edge =
-      let t = in_map (link_of P) (link j v i) (filter (λ c. c.triggering) P.conns) edge in
-      let u = in_filter (λ (c : Conn). c.triggering) t.0 P.conns t.1 in
-      subst HasWidth (sym (ap (λ (l : Link). l.via) t.2)) (all_in (λ (c : Conn). HasWidth c.via) P.conns t.0 valid.well_formed.limits.widths u.0)
-
-  reached_below : (Z : ℕ → Type 0) (i : ℕ) (y : Tier) → Reach P starts Z i y → i < sim_count P
-  reached_below Z i y (from_start _ _ out is) = elim (cases_lt i (sim_count P)) [ inl low ↦ low | inr high ↦ absurd (none_some (sym (none i high) ∙ is)) ]
-  reached_below Z i w (along j v _ y _ walk edge out is) =
-      let t = in_map (link_of P) (link j v i) (filter (λ c. c.triggering) P.conns) edge in
-      let u = in_filter (λ (c : Conn). c.triggering) t.0 P.conns t.1 in
-      let ends = all_in (λ (c : Conn). (c.from < length P.entities) × (c.to < length P.entities)) P.conns t.0 valid.well_formed.references.conns u.0 in
-      subst (λ (n : ℕ). n < sim_count P) (sym (ap (λ (l : Link). l.to) t.2)) (owner_is_below P valid.well_formed.references t.0.to ends.1)
-
-  -- walks are among those that the table is of
-  walk_inside : (Z : ℕ → Type 0) (z : ℕ → Bool) → ((i : ℕ) → z i ≡ true → Z i) → (i : ℕ) (y : Tier) → Reach P starts Z i y → Reach P starts (Barred z (sim_count P)) i y
-  walk_inside Z z same i y (from_start _ _ out is) = from_start i y (λ b. barred b) is
-    where
-      barred : Barred z (sim_count P) i → ⊥
-      barred (inl h) = out (same i h)
-      barred (inr h) = let low = reached_below Z i y (from_start i y out is) in omega (arith, h, low)
-  walk_inside Z z same i w (along j v _ y _ walk edge out is) = along j v i y w (walk_inside Z z same j y walk) edge (λ b. barred b) is
-    where
-      barred : Barred z (sim_count P) i → ⊥
-      barred (inl h) = out (same i h)
-      barred (inr h) = let low = reached_below Z i w (along j v i y w walk edge out is) in omega (arith, h, low)
-
-  -- the least end of walks to i, or there is none
-  pub some_earliest : (i : ℕ) → (o : Option Tier) × MatchOption o ((y : Tier) → Reach P starts nobody i y → ⊥) (λ e. IsEarliest P starts i e)
-  some_earliest i = go (table.0 i) refl
-    where
-      nobody_in : ℕ → Bool
-      nobody_in j = false
-
-      table : (t : ℕ → Option Tier) × IsTable P starts nobody_in (sim_count P) t
-      table = some_table P edges_wide nobody_in (sim_count P) starts
-
-      moved : (j : ℕ) (y : Tier) → Reach P starts nobody j y → Reach P starts (Barred nobody_in (sim_count P)) j y
-      moved = walk_inside nobody nobody_in (λ j h. true≢false (sym h))
-
-      go : (o : Option Tier) → table.0 i ≡ o → (o : Option Tier) × MatchOption o ((y : Tier) → Reach P starts nobody i y → ⊥) (λ e. IsEarliest P starts i e)
-      go None e = (None, λ y walk. let b = table.1.bounding i y (moved i y walk) in none_some (sym e ∙ b.1))
-      go (Some x) e = (
-        Some x,
-        record {
-          reached = reach_wider P starts (Barred nobody_in (sim_count P)) nobody (λ j h. absurd h) i x (table.1.reached i x e);
-          least = λ y walk. let b = table.1.bounding i y (moved i y walk) in subst (λ (t : Tier). IsUpTo t y) (some_same (sym b.1 ∙ e)) b.2;
-        },
-      )
-
-  -- the least time of the ends of walks to s that touch s at their end alone, or there is none
-  pub some_outer : (s : ℕ) → (o : Option ℤ) × IsOuterTime P starts s o
-  some_outer s = go (least ends) refl
-    where
-      it : ℕ → Bool
-      it j = j == s
-
-      table : (t : ℕ → Option Tier) × IsTable P starts it (sim_count P) t
-      table = some_table P edges_wide it (sim_count P) starts
-
-      ends : List Tier
-      ends = into P table.0 s
-
-      -- each outer walk has one of these ends that isn't after its own
-      end_before : (w : Tier) → IsOuter P starts s w → (d : Tier) × IsIn d ends × IsUpTo d w
-      end_before w o =
-          let b = table.1.bounding o.from o.at (walk_inside (λ i. i ≡ s) it (λ j h. eqb-true j s h) o.from o.at o.walk) in
-          (delayed b.0 o.via, into_has P table.0 o.from o.via s b.0 o.edge b.1, subst (λ (t : Tier). IsUpTo (delayed b.0 o.via) t) (sym o.is) (delayed_keeps b.0 o.at o.via b.2))
-
-      time_up_to : (x y : Tier) → IsUpTo x y → x.time ≤ℤ y.time
-      time_up_to x y h = elim (is_up_to x y h) [ inl e ↦ grind (arith, ints) | inr e ↦ grind (arith, ints) ]
-
-      go : (o : Option Tier) → least ends ≡ o → (o : Option ℤ) × IsOuterTime P starts s o
-      go None e = (None, λ w o. let d = end_before w o in let t = is_least ends d.0 d.1 in none_some (sym e ∙ t.1))
-      go (Some d) e =
-          let l = least_is ends d e in
-          let c = has_into P table.0 s d l.0 in (
-            Some d.time,
-            (
-              (d, record { from = c.from; via = c.via; at = c.at; edge = c.edge; walk = reach_wider P starts (Barred it (sim_count P)) (λ i. i ≡ s) (λ j h. inl (eq-eqb j s h)) c.from c.at (table.1.reached c.from c.at c.is); is = c.end }, refl),
-              λ w o. let b = end_before w o in time_up_to d w (up_to_trans d b.0 w (l.1 b.0 b.1) b.2),
-            ),
-          )

@@ -58,12 +58,6 @@ module _ (P : Plan) (s : ℕ) (f : Act) where
       let u = both_hold c.triggering (owner P c.to == j) t.1 in
       (t.0, u.0, eqb-true (owner P c.to) j u.1)
 
-  pub not_given : (j : ℕ) (y : Tier) (c : Conn) → output P f c.from c.from_attr ≡ None → Brings P s f j y c → ⊥
-  not_given j y c none b = none_some (sym none ∙ b.given)
-
-  pub not_triggering : (j : ℕ) (y : Tier) (c : Conn) → c.triggering ≡ false → Brings P s f j y c → ⊥
-  not_triggering j y c off b = true≢false (sym (brings_out j y c b).1 ∙ off)
-
   pub not_to : (j : ℕ) (y : Tier) (c : Conn) → (owner P c.to ≡ j → ⊥) → Brings P s f j y c → ⊥
   not_to j y c n b = n (brings_out j y c b).2
 

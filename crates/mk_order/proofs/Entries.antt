@@ -109,12 +109,6 @@ module _ (P : Plan) (V : View) where
 
   -- ---- a wrong message: the fault alone
 
-  pub wrong_start : (i : ℕ) (m : Message) (o : Option OpenTurn) (c : Cause) (j : ℕ) → start P (note_got P V i m o (Some c)) j ≡ start P V j
-  wrong_start i m o c j = refl
-
-  pub wrong_last : (i : ℕ) (m : Message) (o : Option OpenTurn) (c : Cause) (j : ℕ) → last_step (note_got P V i m o (Some c)) j ≡ last_step V j
-  wrong_last i m o c j = refl
-
 -- ---- acts with one more of s: what is due, what triggers, and what they supply
 
 pub in_grown : (A : Family) (s : ℕ) (f : Act) (j : ℕ) (a : Act) → IsIn a (grown A s f j) → IsIn a (A j) ⊎ ((j ≡ s) × (a ≡ f))
@@ -144,12 +138,6 @@ module _ (P : Plan) (s : ℕ) (f : Act) where
 
   pub brought_at : (j : ℕ) (y z : Tier) (c : Conn) → Brings j y c → Brings j z c → y ≡ z
   brought_at j y z c b d = b.is ∙ sym d.is
-
-  pub brought_to : (i j : ℕ) (y z : Tier) (c : Conn) → Brings i y c → Brings j z c → i ≡ j
-  brought_to i j y z c b d = sym (is_to i y b) ∙ is_to j z d
-    where
-      is_to : (k : ℕ) (x : Tier) → Brings k x c → owner P c.to ≡ k
-      is_to k x b = let t = in_filter (λ (c : Conn). c.triggering && (owner P c.to == k)) c P.conns b.to in eqb-true (owner P c.to) k (both_hold c.triggering (owner P c.to == k) t.1).1
 
   -- what an act within the limit brings is within the run and the loop limit
   pub brought_within : IsInLimit P s f → (j : ℕ) (y : Tier) (c : Conn) → Brings j y c → is_in_run P y ≡ true

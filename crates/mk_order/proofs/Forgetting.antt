@@ -40,12 +40,3 @@ lesser (f ∷ ts) e d m h =
     below : (best : Timed) (c : Bool) → up_to best.at d.at ≡ c → IsUpTo e.at best.at → up_to best.at d.at ≡ false
     below best true p k = absurd (true≢false (sym (up_to_trans e.at best.at d.at k p) ∙ h))
     below best false p k = p
-
--- d is overtaken: by one that comes after it in the list, or is later than it
-pub data IsOvertaken (front back : List Timed) (d : Timed) : Timed → Type 0 where
-  by_next : (e : Timed) → IsIn e back → IsUpTo d.at e.at → IsOvertaken front back d e
-  by_later : (e : Timed) → IsIn e front → IsBefore d.at e.at → IsOvertaken front back d e
-
-pub latest_without : (front back : List Timed) (d e : Timed) → IsOvertaken front back d e → latest (front ++ d ∷ back) ≡ latest (front ++ back)
-latest_without front back d e (by_next _ m h) = fold-append later None front (d ∷ back) ∙ overtaken (latest front) back d e m h ∙ sym (fold-append later None front back)
-latest_without front back d e (by_later _ m h) = fold-append later None front (d ∷ back) ∙ ap (λ (o : Option Timed). fold later o back) (lesser front e d m h) ∙ sym (fold-append later None front back)

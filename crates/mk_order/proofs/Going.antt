@@ -45,43 +45,9 @@ module _ (P : Plan) (valid : IsValidPlan P) where
   all_shut : (V : View) → ((i : ℕ) → V.open_at i ≡ None) → (i : ℕ) → (seen P V).open_at i ≡ None
   all_shut V shut i = ap (option_map (turn_of P V.owed i)) (shut i)
 
-  -- one that is ready alone is ready
-  pub alone_ready : (V : View) (s : ℕ) (x : Tier) → IsReadyAlone P V s x → IsReady P V s x
-  alone_ready V s x r = ready_back V s x (r.closed s) (least_is_ready (parts P) (laws P valid) (seen P V) (all_shut V r.closed) s x r.at_pending (λ i y is. weaker i y (r.first i y is)))
-    where
-      weaker : (i : ℕ) (y : Tier) → IsNoLater P (x, s) (y, i) → (up_to y x ≡ false) ⊎ ((x ≡ y) × (rank_of P s ≤ rank_of P i))
-      weaker i y (inl (inl b)) = inl b
-      weaker i y (inl (inr b)) = inr (b.0, omega (arith, b.1))
-      weaker i y (inr e) = inr (ap (λ (v : Visit). v.0) e, subst (λ (n : ℕ). rank_of P s ≤ n) (ap (λ (v : Visit). rank_of P v.1) e) (omega arith))
-
-  -- at most one is ready alone
-  pub alone_once : (V : View) (s i : ℕ) (x y : Tier) → IsReadyAlone P V s x → IsReadyAlone P V i y → s ≡ i
-  alone_once V s i x y r q = meet (r.first i y q.at_pending) (q.first s x r.at_pending)
-    where
-      meet : IsNoLater P (x, s) (y, i) → IsNoLater P (y, i) (x, s) → s ≡ i
-      meet (inr e) b = ap (λ (v : Visit). v.1) e
-      meet (inl a) (inr e) = sym (ap (λ (v : Visit). v.1) e)
-      meet (inl (inl a)) (inl (inl b)) = absurd (true≢false (sym (up_to_total x y a) ∙ b))
-      meet (inl (inl a)) (inl (inr b)) = absurd (apart x y a (sym b.0))
-      meet (inl (inr a)) (inl (inl b)) = absurd (apart y x b (sym a.0))
-      meet (inl (inr a)) (inl (inr b)) = absurd (omega (arith, a.1, b.1))
-
   -- where nothing is open and something is pending, somebody is ready
   pub some_ready : (V : View) → ((i : ℕ) → V.open_at i ≡ None) → (i : ℕ) (y : Tier) → pending P V.acts i ≡ Some y → (s : ℕ) × (x : Tier) × IsReady P V s x
   some_ready V shut i y is = let t = somebody_ready (parts P) (laws P valid) (seen P V) (all_shut V shut) i y is in (t.0, t.1, ready_back V t.0 t.1 (shut t.0) t.2)
-
-  -- and somebody is ready alone
-  pub some_ready_alone : (V : View) → ((i : ℕ) → V.open_at i ≡ None) → (i : ℕ) (y : Tier) → pending P V.acts i ≡ Some y → (s : ℕ) × (x : Tier) × IsReadyAlone P V s x
-  some_ready_alone V shut i y is =
-      let t = somebody_least (parts P) (laws P valid) (seen P V) (all_shut V shut) i y is in
-      (t.0, t.1, record { closed = shut; at_pending = t.2; first = λ j z there. firmer j z (pending_below P V.acts t.0 t.1 t.2) (pending_below P V.acts j z there) (t.3 j z there) })
-    where
-      firmer : {s : ℕ} {x : Tier} (j : ℕ) (z : Tier) → s < sim_count P → j < sim_count P → (up_to z x ≡ false) ⊎ ((x ≡ z) × (rank_of P s ≤ rank_of P j)) → IsNoLater P (x, s) (z, j)
-      firmer j z low high (inl b) = inl (inl b)
-      firmer {s} {x} j z low high (inr b) = elim (cases_lt (rank_of P s) (rank_of P j)) [
-        | inl less ↦ inl (inr (b.0, less))
-        | inr more ↦ let e : s ≡ j = ranks_differ P valid.ranks s j low high (omega (arith, b.1)) in inr (λ k. (b.0 k, e k))
-      ]
 
   -- ---- the promise of max_advance
 

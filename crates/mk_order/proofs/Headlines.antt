@@ -11,7 +11,7 @@ use Rattle.mk_plan.specs.Advance.{IsAdvance, IsPromised}
 use Rattle.mk_plan.specs.Orderly.{IsOrderly, IsOrderlyAlone, IsOrderlySoFar, IsOwnTime}
 use Rattle.mk_plan.specs.Agreement.{Continues, Agrees, IsFinished, Alike}
 use Rattle.mk_order.proofs.Agreeing.{agreeing, finished, goes_on}
-use Rattle.mk_order.proofs.Going.{alone_ready, promised, same_runs}
+use Rattle.mk_order.proofs.Going.{promised, same_runs}
 use Rattle.mk_order.proofs.Seen.{reached}
 use Rattle.mk_order.proofs.Told.{heard_seen, got_is}
 
@@ -23,21 +23,9 @@ module _ (P : Plan) (valid : IsValidPlan P) where
   pub orderly_finished : (J : List Entry) → IsOrderly P J → IsDone P (view P J) → IsFinished P J
   orderly_finished J orderly done = finished IsReady IsAdvance P (λ V s x r. r) valid J orderly.0 done.no_fault done.closed done.none_pending
 
-  -- with one request outstanding at a time
-  pub alone_agrees : (J : List Entry) → IsOrderlyAlone P J → Agrees P J
-  alone_agrees J orderly = agreeing IsReadyAlone IsOwnTime P (alone_ready P valid) valid J orderly.0
-
-  pub alone_finished : (J : List Entry) → IsOrderlyAlone P J → IsDone P (view P J) → IsFinished P J
-  alone_finished J orderly done = finished IsReadyAlone IsOwnTime P (alone_ready P valid) valid J orderly.0 done.no_fault done.closed done.none_pending
-
   -- the max_advance of the next Step of s is a promise over all messages that may come, where s
   -- sends none until its reply
   pub advance_promised : (J : List Entry) → IsOrderlySoFar IsReady IsAdvance P J → (view P J).fault ≡ None → (s : ℕ) (x : Tier) (m : ℤ) → s < sim_count P → IsReady P (view P J) s x → IsAdvance P (view P J) s x m
       → (R : Messages) → Continues P J R → R s ≡ got J s → IsPromised P R s x.time m
   advance_promised J orderly fine s x m low ready number R on over = promised P valid (view P J) (reached IsReady IsAdvance P (λ V s x r. r) J orderly) s x ready R
       (goes_on IsReady IsAdvance P (λ V s x r. r) valid J orderly R on) (over ∙ got_is IsReady IsAdvance P (λ V s x r. r) J orderly fine s ∙ sym (heard_seen P (view P J) s)) m number
-
-  -- a finished journal's messages are alike to others over which each turn ends: then all that is
-  -- said is the same
-  pub finished_alike : (J : List Entry) (Q : Messages) → IsFinished P J → ((i : ℕ) → i < sim_count P → all_ended (sequential P Q i) ≡ true) → Alike P (got J) Q → (i : ℕ) → run_talk P (got J) i ≡ run_talk P Q i
-  finished_alike J Q f whole alike i = same_runs P valid (got J) Q (λ j h. (f j h).ended) whole alike i

@@ -50,9 +50,6 @@ module _ (P : Plan) (V : View) (s : ℕ) (m : Tier) where
   pub earliest_is_mark : IsEarliest P (start P V) s m → IsMarkOf P V s m
   earliest_is_mark e = record { low = e.least }
 
-  pub less_is_mark : (n : Tier) → IsUpTo n m → IsMarkOf P V s m → IsMarkOf P V s n
-  less_is_mark n h mark = record { low = λ y walk. up_to_trans n m y h (mark.low y walk) }
-
   pub unreached_is_mark : ((y : Tier) → Reach P (start P V) nobody s y → ⊥) → IsMarkOf P V s m
   unreached_is_mark none = record { low = λ y walk. absurd (none y walk) }
 

@@ -50,11 +50,6 @@ module _ (P : Plan) (s : ℕ) (f : Act) where
     pub beyond_here : int_lt (delayed (made f) c.via).time P.until ≡ true → ((delayed (made f) c.via).tier == P.loops + 1) ≡ true → beyond P s f (c ∷ cs) ≡ Some (LoopLimit (owner P c.to) (delayed (made f) c.via).time)
     beyond_here early high = ap (answered c cs) (found_is early true high)
 
-  -- connections that don't trigger, or aren't from s, are passed over
-  pub passed_over : (c : Conn) (cs : List Conn) → (c.triggering && (owner P c.from == s)) ≡ false
-      → beyond P s f (filter (λ c. c.triggering && (owner P c.from == s)) (c ∷ cs)) ≡ beyond P s f (filter (λ c. c.triggering && (owner P c.from == s)) cs)
-  passed_over c cs out = ap (λ (b : Bool). beyond P s f (if b then c ∷ filter (λ c. c.triggering && (owner P c.from == s)) cs else filter (λ c. c.triggering && (owner P c.from == s)) cs)) out
-
   pub looked_at : (c : Conn) (cs : List Conn) → (c.triggering && (owner P c.from == s)) ≡ true
       → beyond P s f (filter (λ c. c.triggering && (owner P c.from == s)) (c ∷ cs)) ≡ beyond P s f (c ∷ filter (λ c. c.triggering && (owner P c.from == s)) cs)
   looked_at c cs here = ap (λ (b : Bool). beyond P s f (if b then c ∷ filter (λ c. c.triggering && (owner P c.from == s)) cs else filter (λ c. c.triggering && (owner P c.from == s)) cs)) here

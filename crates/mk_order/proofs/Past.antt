@@ -50,8 +50,5 @@ module _ (Ready : Plan → View → ℕ → Tier → Type 0) (Advance : Plan →
   unfolding laws
   view_right i = acts_right (parts P) (laws P valid) (seen P (view P J)) (reached Ready Advance P truly J orderly) i
 
-  pub view_ended : (i : ℕ) → Each (λ (a : Act). a.ended ≡ true) ((view P J).acts i)
-  view_ended i = (invariant_holds (parts P) (laws P valid) (seen P (view P J)) (reached Ready Advance P truly J orderly)).shape.whole_acts i
-
   pub pending_within : (s : ℕ) (x : Tier) → pending P (view P J).acts s ≡ Some x → (pos 0 ≤ℤ x.time) × (is_in_run P x ≡ true) × (s < sim_count P)
   pending_within s x is = due_not_negative P valid (view P J).acts s x view_right (pending_due P (view P J).acts s x is)

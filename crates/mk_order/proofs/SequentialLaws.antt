@@ -16,24 +16,10 @@ use Rattle.mk_order.proofs.RightActs.{IsRight}
 use Rattle.mk_order.proofs.Theory.{parts, laws}
 
 module _ (P : Plan) (valid : IsValidPlan P) (R : Messages) where
-  -- the acts of a simulator rise in time
-  pub acts_rise : (i : ℕ) → Rises (λ (a b : Act). IsBefore a.at b.at) (sequential P R i)
-  unfolding theory.seq
-  acts_rise i = seq_rises (parts P) (laws P valid) R i
-
-  -- each is at a visit
-  pub acts_visited : (i : ℕ) → Each (λ (a : Act). IsIn {X = Visit} (a.at, i) (visits P)) (sequential P R i)
-  unfolding theory.seq
-  acts_visited i = seq_visited (parts P) (laws P valid) R i
 
   pub acts_right : (i : ℕ) → Each IsRight (sequential P R i)
   unfolding theory.seq laws
   acts_right i = seq_right (parts P) (laws P valid) R i
-
-  -- where a simulator is due over all acts, it has an act
-  pub due_acts : (s : ℕ) (x : Tier) → is_due P (sequential P R) s x ≡ true → (u : Act) × IsIn u (sequential P R s) × (u.at ≡ x)
-  unfolding theory.seq
-  due_acts s x due = acts_when_due (parts P) (laws P valid) R s x due
 
   -- each act is due, and is the turn that follows the acts before it, over all acts
   pub act_is : (s : ℕ) (before : List Act) (u : Act) (after : List Act) → sequential P R s ≡ before ++ u ∷ after → (is_due P (sequential P R) s u.at ≡ true) × (u ≡ act P (sequential P R) s u.at before (R s))

@@ -78,10 +78,6 @@ module _ (P : Plan) (V : View) (starts : ℕ → Option Tier) (busy : ℕ → Bo
     subst (λ (f : ℕ → Option Tier). IsClear P f s x) (sym same_starts) r.clear,
   )
 
-  -- the least-numbered of those that are ready by the tables
-  pub first_by : (s : ℕ) (x : Tier) → busy s ≡ false → starts s ≡ Some x → IsClear P starts s x → ((i : ℕ) (y : Tier) → i < s → busy i ≡ false → starts i ≡ Some y → IsClear P starts i y → ⊥) → IsFirstReady IsReady IsAdvance P V s x
-  first_by s x idle at clear none = (ready_by s x idle at clear, λ i y low r. let t = ready_why i y r in none i y low t.0 t.1 t.2)
-
   -- where none below the count is ready by the tables, nobody is
   pub nobody_by : ((i : ℕ) (y : Tier) → i < sim_count P → busy i ≡ false → starts i ≡ Some y → IsClear P starts i y → ⊥) → (i : ℕ) (y : Tier) → IsReady P V i y → ⊥
   nobody_by none i y r = let t = ready_why i y r in none i y (pending_below P V.acts i y r.at_pending) t.0 t.1 t.2
@@ -168,22 +164,6 @@ pub data IsLeastTrigger (P : Plan) (V : View) (s : ℕ) (x : Tier) : Option Tier
   has_trigger : (d : Tier) → IsIn d (triggers P (supply P V.acts) s) → IsBefore x d → ((y : Tier) → IsIn y (triggers P (supply P V.acts) s) → IsBefore x y → IsUpTo d y) → IsLeastTrigger P V s x (Some d)
 
 module _ (P : Plan) (V : View) (s : ℕ) (x : Tier) where
-  -- there always is an answer
-  pub some_trigger : (o : Option Tier) × IsLeastTrigger P V s x o
-  some_trigger = go (least later) refl
-    where
-      all : List Tier
-      all = triggers P (supply P V.acts) s
-
-      later : List Tier
-      later = filter (before x) all
-
-      go : (o : Option Tier) → least later ≡ o → (o : Option Tier) × IsLeastTrigger P V s x o
-      go None e = (None, no_trigger (λ y m b. let t = is_least later y (filter_in (before x) y all m (is_before x y b)) in none_some (sym e ∙ t.1)))
-      go (Some d) e =
-          let t = least_is later d e in
-          let u = in_filter (before x) d all t.0 in
-          (Some d, has_trigger d u.0 (before_is x d u.1) (λ y m b. t.1 y (filter_in (before x) y all m (is_before x y b))))
 
   -- the queue's least flagged time is the answer
   pub trigger_by : {X : Type 0} (time : X → Tier) (flag : X → Bool) (q : List X) → Pends P time flag V s q → ((y : Tier) → IsTriggeredAt P V s y → IsBefore x y → IsPendingAt P V s y)
@@ -212,10 +192,6 @@ module _ (P : Plan) (V : View) (s : ℕ) (x : Tier) where
 
       trans : (a b c : ℤ) → a ≤ℤ b → b ≤ℤ c → a ≤ℤ c
       trans a b c h k = grind (arith, ints)
-
-  -- so there is a max_advance, if there is an outer bound
-  pub some_advance : (outer : Option ℤ) → IsOuterTime P (start P V) s outer → (m : ℤ) × IsAdvance P V s x m
-  some_advance outer out = let t = some_trigger in (advance_by P.until x.time (sooner t.0 outer), advance_is t.0 outer t.1 out)
 
 -- at a journal: the queue's least flagged time after the step and the outer bound give its max_advance
 pub advance_by_queue : {X : Type 0} (time : X → Tier) (flag : X → Bool) (P : Plan) → IsValidPlan P → (J : List Entry) → IsOrderlySoFar IsReady IsAdvance P J → (view P J).fault ≡ None → (s : ℕ) (x : Tier) → IsReady P (view P J) s x

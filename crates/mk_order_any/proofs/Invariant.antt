@@ -247,9 +247,6 @@ module _ (P : Parts) (L : Laws P) where
       heard_closed W i shut ∙ ap (λ K. heard_in P K) grown ∙ heard_in-append P (V.acts i) (a ∷ [])
       ∙ ap (λ l. heard_in P (V.acts i) ++ l) (append-nil (msgs a) ∙ L.msgs_mk T.when (T.messages ++ m ∷ []) true (T.lines ++ heard m ∷ []))
 
-  extends : (K K' M : List Message) → K' ≡ K → Prefix K M → Prefix K' M
-  extends K K' M e p = subst (λ (l : List Message). Prefix l M) (sym e) p
-
   prefix_same : (K M : List Message) → M ≡ K → Prefix K M
   prefix_same K M e = ([], e ∙ sym (append-nil K))
 

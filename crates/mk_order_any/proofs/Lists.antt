@@ -29,9 +29,6 @@ module _ {X : Type 0} where
   pub tail_same : (x y : X) (xs ys : List X) → x ∷ xs ≡ y ∷ ys → xs ≡ ys
   tail_same x y xs ys e = cc
 
-  pub cons_nil : (x : X) (xs : List X) → x ∷ xs ≡ [] → ⊥
-  cons_nil x xs e = cc
-
   pub in_append : (w : X) (xs ys : List X) → In w (xs ++ ys) → In w xs ⊎ In w ys
   in_append w [] ys there = inr there
   in_append w (x ∷ xs) ys (inl is) = inl (inl is)

@@ -209,21 +209,3 @@ module _ (P : Parts) (L : Laws P) where
   pub data GoesOn : View P → View P → Type 0 where
     here : (V : View P) → GoesOn V V
     then : (V W X : View P) → GoesOn V W → Moves P W X → GoesOn V X
-
-  -- an end after many entries has one before them that is not after it
-  pub bounds_stay : (V X : View P) → GoesOn V X → (i : ℕ) (y : Tier) → Reach P X (nobody P) i y → (z : Tier) × Reach P V (nobody P) i z × le P z y
-  bounds_stay V X (here _) i y walk = (y, walk, le_refl P L y)
-  bounds_stay V X (then _ W _ before moves) i y walk =
-      let r : (z : Tier) × Reach P W (nobody P) i z × le P z y = bounds_never_fall W X moves i y walk in
-      let q : (z : Tier) × Reach P V (nobody P) i z × le P z r.0 = bounds_stay V W before i r.0 r.1 in
-      (q.0, q.1, L.le_trans q.0 r.0 y q.2 r.2)
-
-  -- an open turn is late for a simulator that is Ready, and for the open turns
-  pub open_late_for_ready : (V : View P) (s : ℕ) (x : Tier) → Ready P V s x → (j : ℕ) (S : Turn P) → V.open_at j ≡ Some S → Late P s x j S.when
-  open_late_for_ready V s x ready j S is v link = ready.clear j v S.when link (from_start j S.when (λ z. z) (start_open P L V j S is))
-
-  pub open_late_for_open : (V : View P) → Reached P V → (i : ℕ) (T : Turn P) → V.open_at i ≡ Some T → (j : ℕ) (S : Turn P) → V.open_at j ≡ Some S → Late P i T.when j S.when
-  open_late_for_open V reached i T is j S is' =
-      let a : Agreeing P L (seq P (heard_of P V)) V.acts V.open_at = (invariant_holds P L V reached).agreeing (heard_of P V) (λ k. ([], sym (append-nil (heard_of P V k)))) in
-      let o : Opened P L (seq P (heard_of P V)) (V.acts j) j S = a.opened j S is' in
-      subst (λ (y : Tier). Late P i T.when j y) o.begun (a.late i T is j (o.first ∷ o.back) o.parts).0

@@ -24,9 +24,6 @@ module _ (P : Parts) (L : Laws P) where
   pub lt_le_trans : (x y z : Tier) → lt P x y → le P y z → lt P x z
   lt_le_trans x y z a b = elim (le_or_lt z x) [ inl c ↦ not_both x y a (L.le_trans y z x b c) | inr c ↦ c ]
 
-  pub le_lt_trans : (x y z : Tier) → le P x y → lt P y z → lt P x z
-  le_lt_trans x y z a b = elim (le_or_lt z x) [ inl c ↦ not_both y z b (L.le_trans z x y c a) | inr c ↦ c ]
-
   pub lt_trans : (x y z : Tier) → lt P x y → lt P y z → lt P x z
   lt_trans x y z a b = lt_le_trans x y z a (L.le_total y z b)
 
@@ -75,6 +72,3 @@ module _ (P : Parts) (L : Laws P) where
       go (inl a) (inr b) = subst (λ (z : Tier). lt P x z) b.0 a
       go (inr a) (inl b) = subst (λ (z : Tier). lt P z (after y v)) (sym a.0) b
       go (inr a) (inr b) = absurd (omega arith)
-
-  pub late_mono : (s : ℕ) (x : Tier) (i : ℕ) (y z : Tier) → le P y z → Late P s x i y → Late P s x i z
-  late_mono s x i y z a late v link = lt_le_trans x (after y v) (after z v) (late v link) (L.after_mono y z v a)

@@ -29,10 +29,6 @@ module _ (P : Parts) (i : ℕ) where
   ends_on o q [] later (none _) after = after
   ends_on o q (m ∷ ms) later (more _ p _ _ _ right goes rest) after = next o p m (ms ++ later) right goes (ends_on p q ms later rest after)
 
-  pub used_all : (o q : Place) (ms : List Message) → Reads o ms q → used P i o ms ≡ ms
-  used_all o q [] (none _) = refl
-  used_all o q (m ∷ ms) (more _ p _ _ _ right goes rest) = rw (right, goes, used_all p q ms rest)
-
   pub not_whole : (o q : Place) (ms : List Message) → Reads o ms q → whole P i o ms ≡ false
   not_whole o q [] (none _) = refl
   not_whole o q (m ∷ ms) (more _ p _ _ _ right goes rest) = rw (right, goes, not_whole p q ms rest)

@@ -119,11 +119,6 @@ module _ (S : Setting) (P : Plan) where
       ∙ ap (λ (l : List Item). if is_within S.scenario i && is_some ((view P J).open_at i) then reply_in S i (map bare l) ∷ [] else []) (sent_got J s m i)
   kept_got J s m i (h ∷ held) apart = refl
 
-  -- none is awaited of one without, nor of one whose turn is closed
-  pub none_outside : (J : List Entry) (i : ℕ) (held : List Held) → is_within S.scenario i ≡ false → replies_kept S P J i held ≡ []
-  none_outside J i [] outside = ap (λ (b : Bool). if b && is_some ((view P J).open_at i) then reply_in S i (map bare (sent J i)) ∷ [] else []) outside
-  none_outside J i (h ∷ held) outside = refl
-
   pub none_shut : (J : List Entry) (i : ℕ) (held : List Held) → is_some ((view P J).open_at i) ≡ false → replies_kept S P J i held ≡ []
   none_shut J i [] shut = ap (λ (b : Bool). if is_within S.scenario i && b then reply_in S i (map bare (sent J i)) ∷ [] else []) shut ∙ none (is_within S.scenario i)
     where

@@ -64,18 +64,6 @@ module _ {S Y : Type 0} where
       by (x ∷ sets) zero h = h
       by (x ∷ sets) (suc e) h = by sets e h
 
-  -- one more connection
-  pub attrs_more : (cs : List Conn) (c : Conn) (i m : ℕ) (old new : List (IndexSet (String Y) S)) → m ≡ i + 1 → i < length cs → c ≡ get_or cs i c → AreAttrsOf (take i cs) old → HasSource old c new → AreAttrsOf (take m cs) new
-  attrs_more cs c i m old new next low at all step e attr =
-      step.each e attr ∙ ap (λ b. b || ((c.from == e) && same_text c.from_attr attr)) (all e attr)
-      ∙ ap (λ b. list_any test (take i cs) || b) (is_or_false (test c)) ∙ sym (list_any-append test (take i cs) (c ∷ [])) ∙ ap (list_any test) (one_more ∙ ap (λ n. take n cs) (sym next))
-    where
-      test : Conn → Bool
-      test d = (d.from == e) && same_text d.from_attr attr
-
-      one_more : take i cs ++ c ∷ [] ≡ take (i + 1) cs
-      one_more = ap (λ d. take i cs ++ d ∷ []) at ∙ sym (take_more cs i c low)
-
 -- ---- pairs
 
 pub same_item : {X : Type 0} (xs ys : List X) (i : ℕ) (d : X) → xs ≡ ys → get_or xs i d ≡ get_or ys i d

@@ -119,10 +119,6 @@ take_none : {X : Type 0} (xs : List X) → take 0 xs ≡ []
 take_none [] = refl
 take_none (x ∷ xs) = refl
 
-drop_none : {X : Type 0} (xs : List X) → drop 0 xs ≡ xs
-drop_none [] = refl
-drop_none (x ∷ xs) = refl
-
 -- the same of equal values
 pub walked_now : (messages : Option (List Arrival)) (count : ℕ) (J : List Entry) (asks : List Asked) (i place later n m rest less : ℕ) (steps fewer : List Asked)
     → later ≡ place → m ≡ n → less ≡ rest → fewer ≡ steps → IsWalked messages count J asks i place n rest steps → IsWalked messages count J asks i later m less fewer

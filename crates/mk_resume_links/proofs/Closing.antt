@@ -78,10 +78,6 @@ module _ (saved : Counts) (started : ℕ) (S : Scenario) (replies : Messages) (r
     rests = c.rests;
   }
 
-  -- the first items of all were queued or answered
-  pub begun_closed : (X : ℕ → List Item) (A : ℕ → List Message) (J : List Entry) (log : List LogEntry) (C : CrewState) → With X A J (λ i. 0) log C → ((i : ℕ) (l : LinkNo) → sim_link started S i ≡ Some l → X i ≡ free_items J i 0) → ((i : ℕ) → A i ≡ awaited S reply J (λ i. 0) i) → Catching J (λ i. 0) log C
-  begun_closed X A J log C c items awaits = seen X (λ i. free_items J i 0) A (awaited S reply J (λ i. 0)) J (λ i. 0) log C c items awaits
-
   -- a fact of every simulator: of this one, and of the others
   each : (Q : ℕ → Type 0) (s : ℕ) → Q s → ((i : ℕ) → (i ≡ s → ⊥) → Q i) → (i : ℕ) → Q i
   each Q s here others i = elim (same_or_not i s) [ inl q ↦ subst Q (sym q) here | inr apart ↦ others i apart ]
@@ -128,14 +124,6 @@ module _ (saved : Counts) (started : ℕ) (S : Scenario) (replies : Messages) (r
       (λ i apart. awaited_same K J heard heard i refl (free_sent_away J s item i (heard i) apart) ∙ sym (ap (λ (l : List Message). awaited S reply J heard i ++ l) (given_away s.0 m i apart) ∙ append_nil (awaited S reply J heard i))))
 
   -- ---- a message was sent again
-
-  -- of a link: the items up to the next one were queued
-  pub again_closed : (X : ℕ → List Item) (J : List Entry) (heard : Counts) (log : List LogEntry) (C : CrewState) (s : ℕ) (l : LinkNo) → With X (awaited S reply J heard) J (one_more heard s) log C → sim_link started S s ≡ Some l
-      → X s ≡ free_items J s (heard s + 1) → ((i : ℕ) → (i ≡ s → ⊥) → X i ≡ free_items J i (heard i)) → Catching J (one_more heard s) log C
-  again_closed X J heard log C s l c linked here others = seen X (λ i. free_items J i (one_more heard s i)) (awaited S reply J heard) (awaited S reply J (one_more heard s)) J (one_more heard s) log C c
-      (λ i k link. each (λ j. X j ≡ free_items J j (one_more heard s j)) s (here ∙ ap (free_items J s) (sym (more_here heard s))) (λ j apart. others j apart ∙ ap (free_items J j) (sym (more_away heard s j apart))) i)
-      (each (λ i. awaited S reply J heard i ≡ awaited S reply J (one_more heard s) i) s (awaited_linked J heard s l linked ∙ sym (awaited_linked J (one_more heard s) s l linked))
-      (λ i apart. awaited_same J J heard (one_more heard s) i (sym (more_away heard s i apart)) (ap (free_items J i) (sym (more_away heard s i apart)))))
 
   -- ---- a new message was taken
 

@@ -104,13 +104,6 @@ module _ (saved : Counts) (started : ℕ) (S : Scenario) (replies : Messages) (P
         (parked_rest J heard A log entries C touch counts resting parked t.0 after t.2, inl (refl, none_after))
   ]
 
-  -- entries without a rest
-  pub rests_silent : (J : List Entry) (log entries : List LogEntry) (kept : List Arrival) → IsRestless entries → RestsSoFar saved started S replies P J log kept → RestsSoFar saved started S replies P J (log ++ entries) kept
-  rests_silent J log entries kept restless rests before after is up = elim (first_or_second log entries before after Rest is) [
-    | inl t ↦ rests before t.0 t.1 up
-    | inr t ↦ absurd (restless t.0 after t.2)
-  ]
-
   -- ---- the beginning and the end
 
   -- the handshake had no rest at which all had set up

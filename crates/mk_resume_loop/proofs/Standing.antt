@@ -142,10 +142,6 @@ module _ (P : Plan) (J : List Entry) (orderly : IsOrderlySoFar IsReady IsAdvance
       go (inl same) = let c = g.count in omega (arith, two, same, c)
       go (inr one) = let c = g.count in omega (arith, two, one, c)
 
-  -- so behind an item that wasn't answered comes no other
-  pub never_two : length (sent g.gone i) ≡ n + 1 → (p : ℕ) (t : SimNo) (item : Item) → IsFirstOwn J i from (Some p) → slice_get J p ≡ Some (Sent t item) → (length (sent g.gone i ++ item ∷ []) ≡ n + 2)
-  never_two one p t item first there = length-append (sent g.gone i) (item ∷ []) ∙ (let e : length (sent g.gone i) + 1 ≡ n + 2 = omega (arith, one) in e)
-
 own_sim : (s : SimNo) (i : ℕ) → (s.0 == i) ≡ true → s.0 ≡ i
 own_sim s i own = eqb-true s.0 i own
 

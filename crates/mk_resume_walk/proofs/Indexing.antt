@@ -161,9 +161,6 @@ module _ {V : Type 0} (f : V → List ℕ) where
   pub among : (vs : List V) (i : ℕ) → i < length (map f vs) → i < length vs
   among vs i low = let n = map_length vs in omega (arith, n, low)
 
-  pub sims_kept : (vs : List V) (i : ℕ) (v : V) → length (map f (slice_set vs i v)) ≡ length (map f vs)
-  sims_kept vs i v = map_length (slice_set vs i v) ∙ length_set vs i v ∙ sym (map_length vs)
-
   pub empty_more : (vs ws : List V) (v : V) → ((i : ℕ) (places : List ℕ) → slice_get (map f vs) i ≡ Some places → places ≡ []) → f v ≡ [] → ws ≡ vs ++ v ∷ []
       → (i : ℕ) (places : List ℕ) → slice_get (map f ws) i ≡ Some places → places ≡ []
   empty_more vs ws v empty none is i places at = last (map f vs) i (sym (ap (λ (l : List (List ℕ)). slice_get l i) (ap (map f) is ∙ map_append f vs (v ∷ []))) ∙ at) empty

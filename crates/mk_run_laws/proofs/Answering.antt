@@ -41,9 +41,6 @@ module _ (P : Plan) where
   open_here : (V : View) (s : ℕ) (o : Option OpenTurn) → with_open V s o s ≡ o
   open_here V s o = ap (λ (b : Bool). if b then o else V.open_at s) (same_self s)
 
-  said_with : (V : View) (i : ℕ) (o : Option OpenTurn) → List Said
-  said_with V i o = talk_of (V.acts i) ++ talk_at o
-
   module _ (V : View) where
     after_sent : (s : SimNo) (item : Item) → (talk_at (open_after P V s.0 item) ≡ talk_at (V.open_at s.0) ++ Told (bare item) ∷ []) → (i : ℕ) → Adds V (note_sent P V s.0 item) (Sent s item) i
     after_sent s item more i = elim (same_or_not i s.0) [

@@ -145,5 +145,3 @@ module _ (P : Plan) (valid : IsValidPlan P) where
         messages = sym (ap (λ (F : Family). messages_in (F i)) (seq_is P R)) ∙ t.all_used ∙ heard_seen P (view P J) i ∙ sym (got_is IsReady IsAdvance P its J orderly done.no_fault i);
         ended = sym (ap (λ (F : Family). all_ended (F i)) (seq_is P R)) ∙ all_ended_of (parts P) (theory.seq (parts P) R i) t.all_whole;
       }
-  -- then the messages of the links and those that were got of the simulators within the program are
-  -- a family that answers by kind, if the journal keeps to the kinds: so there is one

@@ -13,10 +13,6 @@ module _ (groups : List Group) (path text : List ℕ) where
       ap (λ has. if has then full_id sims path text else in_group groups path text) around.0
       ∙ ap (λ s. entity_of sims path s (after_first (λ b. b == 46) text)) (sym around.1) ∙ ap (entity_of sims path sim) (sym around.2)
 
-  pub without_point : (sims : List (List ℕ)) → has_byte 46 text ≡ false → place_of sims groups path text ≡ in_group groups path text
-  unfolding place_of
-  without_point sims lacks = ap (λ has. if has then full_id sims path text else in_group groups path text) lacks
-
   pub with_index : (id rest : List ℕ) → IsAround 91 text id rest → ends_with 93 text ≡ true → in_group groups path text ≡ entity_at groups path text id (but_last rest)
   with_index id rest around ends =
       ap (λ has. if has && ends_with 93 text then indexed groups path text else whole (group_ids groups) path text) around.0
@@ -26,6 +22,3 @@ module _ (groups : List Group) (path text : List ℕ) where
 
   pub without_end : has_byte 91 text ≡ true → ends_with 93 text ≡ false → in_group groups path text ≡ whole (group_ids groups) path text
   without_end has ends = ap (λ has. if has && ends_with 93 text then indexed groups path text else whole (group_ids groups) path text) has ∙ ap (λ has. if has then indexed groups path text else whole (group_ids groups) path text) ends
-
-  pub without_bracket : has_byte 91 text ≡ false → in_group groups path text ≡ whole (group_ids groups) path text
-  without_bracket lacks = ap (λ has. if has && ends_with 93 text then indexed groups path text else whole (group_ids groups) path text) lacks

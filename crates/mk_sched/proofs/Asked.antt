@@ -84,9 +84,6 @@ module _ (P : Plan) (J : List Entry) (K : Derived) (derived : IsDerived P J K No
   pub next_asked : (s : SimNo) (L : Derived) (M : List Entry) → IsDerived P M L None → IsAsked (core_of P J None) s (core_of P M None) → HasGivenUp P M L None → HasAdvanced P J (Ok (next.Ask s)) L M
   next_asked s L M derived asked given_up = record { derived = derived; given_up = given_up; ok = asked; err = tt }
 
-  pub next_failed : (e : Mem) (L : Derived) (M : List Entry) → M ≡ J → HasAdvanced P J (Err e) L M
-  next_failed e L M same = record { derived = ended_derived P J K derived M L OutOfMemory same; given_up = ended_given_up P M L OutOfMemory; ok = tt; err = same }
-
   pub next_full : (s : ℕ) (x : Tier) → IsReady P (view P J) s x → length J ≡ P.entries → HasAdvanced P J (Ok (next.Fault (TooLong P.entries))) K J
   next_full s x ready full = record {
     derived = ended_derived P J K derived J K (Faulty (TooLong P.entries)) refl;

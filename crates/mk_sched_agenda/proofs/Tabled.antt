@@ -29,9 +29,6 @@ module _ (P : Plan) (V : View) (B : Seen) (of_plan : AreOfPlan P B) (mirror : St
   pub outer_is : (s : ℕ) (o : Option ℤ) → IsOuterIn P B s o → IsOuterTime P (start P V) s o
   outer_is s o h = subst (λ (f : ℕ → Option Tier). IsOuterTime P f s o) (same_starts P V (start_in B) (is_busy_in B) mirror) h
 
-  pub earliest_mark : (s : ℕ) (e : Tier) → IsEarliestIn P B s (Some e) → IsMarkOf P V s e
-  earliest_mark s e h = earliest_is_mark P V s e (earliest_by P V (start_in B) (is_busy_in B) mirror s e h)
-
 -- ---- after `set_own`
 
 set_start : (xs : List (Option Tier)) (i j : ℕ) (o : Option Tier) → i < length xs → (j ≡ i → unwrap_or (slice_get (slice_set xs i o) j) None ≡ o) × ((j ≡ i → ⊥) → unwrap_or (slice_get (slice_set xs i o) j) None ≡ unwrap_or (slice_get xs j) None)

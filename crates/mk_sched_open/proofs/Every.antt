@@ -114,12 +114,6 @@ module _ (P : Plan) (V : View) (n : ℕ) (sims : List Sim) (h : AreSimsOf P V n 
   pub opened_turn : (t : Sim) × IsTurn (free_id P s (V.acts s)) n t (Some T)
   opened_turn = let t = below_get sims s (subst (λ (k : ℕ). s < k) (sym h.count) low) in (t.0, subst (IsTurn (free_id P s (V.acts s)) n t.0) is (h.each s t.0 t.1).turn)
 
-  pub stepping_at : (x : Tier) (id asks : ℕ) → T.place ≡ Stepping x id asks → T.at ≡ x
-  stepping_at x id asks at = (is_stepping (free_id P s (V.acts s)) n opened_turn.0 T x id asks opened_turn.1 at).time
-
-  pub fetching_at : (x : Tier) (id : ℕ) → T.place ≡ Fetching x id → T.at ≡ x
-  fetching_at x id at = (is_fetching (free_id P s (V.acts s)) n opened_turn.0 T x id opened_turn.1 at).time
-
 -- ---- before any entry
 
 -- before the first step of the simulator

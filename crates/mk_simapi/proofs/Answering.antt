@@ -22,15 +22,6 @@ module _ (L : Simulator) (id : ℕ) (name : List ℕ) (args : List Json) (named 
   called answer.Nothing call e c = absurd c
   called answer.Stop call e c = ap stops_by (sym e) ∙ c
 
-  pub called_after : (M : Simulator) (call : Call) → Some call ≡ call_in name args named → M ≡ after_call L call → M ≡ after_message L (Ask id name args named)
-  called_after M call e is = is ∙ ap (after_called L (item_in name args named)) e
-
-  pub uncalled : (o : Option Item) (payload : Vec ℕ) → None ≡ call_in name args named → o ≡ item_in name args named → IsItemPayload payload.items L id o → AnswersAs (answer.Reply payload) L (Ask id name args named)
-  uncalled o payload e is p = (ap stops_by (sym e), p.0, ap (call_answer L id (item_in name args named)) (sym e) ∙ ap (λ (i : Option Item). call_answer L id i None) (sym is) ∙ p.1, p.2)
-
-  pub uncalled_after : (M : Simulator) (o : Option Item) → None ≡ call_in name args named → o ≡ item_in name args named → M ≡ after_asked L o → M ≡ after_message L (Ask id name args named)
-  uncalled_after M o e is so = so ∙ ap (after_asked L) is ∙ ap (after_called L (item_in name args named)) e
-
 -- a request of another function asks for no item
 pub neither : (name : List ℕ) (args : List Json) (named : Json) → same_text name (codes "step") ≡ false → same_text name (codes "get_data") ≡ false → None ≡ item_in name args named
 neither name args named a b = sym (ap (λ (x : Bool). if x then step_in args named else if same_text name (codes "get_data") then data_in args named else None) a ∙ ap (λ (x : Bool). if x then data_in args named else None) b)

@@ -21,11 +21,6 @@ module _ (f : Fold) (eid attr : List ℕ) where
   abbrev pub value_after : List Input → Option ℤ
   value_after inputs = fold (after_input f eid attr) None inputs
 
-  pub value_push : (inputs : List Input) (k : ℕ) (i : Input) (value : Option ℤ) → k < length inputs → i ≡ get_or inputs k i → value ≡ value_after (take k inputs) → after_input f eid attr value i ≡ value_after (take (k + 1) inputs)
-  value_push inputs k i value low is before =
-      ap (λ v. after_input f eid attr v i) before ∙ sym (fold_push (after_input f eid attr) None (take k inputs) i)
-      ∙ sym (ap value_after (take_more inputs k i low ∙ ap (λ x. take k inputs ++ x ∷ []) (sym is)))
-
   one_number : (v : Option ℤ) (o : Option ℤ) (ns : List ℤ) → fold (with_number f) (add_number f v o) ns ≡ fold (with_number f) v (cons_option o ns)
   one_number v None ns = refl
   one_number v (Some n) ns = refl
@@ -88,19 +83,6 @@ module _ (f : Fold) (eid attr : List ℕ) where
     value = c ∙ so.value;
     small = let s = so.small in omega (arith, s, b);
   }
-
-  pub rows_first : (xs : List Item) (before : List ℕ) → IsSoFar xs 0 before before 0 None
-  rows_first xs before = record { text = sym (append_nil before); number = refl; value = refl; small = omega arith }
-
-  -- and the last line behind them
-  pub rows_end : (xs : List Item) (k : ℕ) (before out new : List ℕ) (count : ℕ) (total : Option ℤ) → length xs ≤ k → IsSoFar xs k before out count total → new ≡ out ++ total_text count total → new ≡ before ++ rows_text f (rows_of f eid attr xs)
-  rows_end xs k before out new count total end so is =
-      let all : take k xs ≡ xs = take_all k xs end in
-      let R : List Item → List Row = rows_of f eid attr in
-      is ∙ ap (λ (l : List ℕ). l ++ total_text count total) so.text ∙ append_assoc before (flat_map row_text (R (take k xs))) (total_text count total)
-      ∙ ap (λ n. before ++ (flat_map row_text (R (take k xs)) ++ total_text n total)) so.number
-      ∙ ap (λ v. before ++ (flat_map row_text (R (take k xs)) ++ total_text (length (R (take k xs))) v)) so.value
-      ∙ ap (λ (l : List Item). before ++ rows_text f (R l)) all
 
 -- ---- sequential execution says the same
 

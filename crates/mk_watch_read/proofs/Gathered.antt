@@ -36,9 +36,6 @@ module _ (P : Plan) (names : List (List ℕ)) where
   pub record IsGathered (ts : List Json) (k : ℕ) (ws : List Watch) : Type 0 where
     pub is : watches_in P names ts ≡ prepended ws (from_on k (drop k ts))
 
-  pub gathered_first : (ts : List Json) → IsGathered ts 0 []
-  gathered_first ts = record { is = refl }
-
   at_place : (ts : List Json) (k : ℕ) (t : Json) → k < length ts → t ≡ get_or ts k t → drop k ts ≡ t ∷ drop (k + 1) ts
   at_place ts k t low is =
       let after : suc k ≡ k + 1 = omega arith in

@@ -31,9 +31,6 @@ module _ (P Q : Plan) (A : List Arrival) (s : Option (List Asked)) (J : List Ent
       subst (λ (X : Plan). ReplaysTo bytes X J) (sym same) so
 
 module _ (first second : List ℕ) where
-  pub first_unfinished : (e : Ending) → IsRecord second → IsNotDone first None e → IsUnblamed first second e
-  first_unfinished e is (inl wanting) = inl (inl wanting)
-  first_unfinished e is (inr stopped) = inr (inr (inl (record { record_is = is; stopped = stopped })))
 
   pub second_unfinished : (P : Plan) (J : List Entry) (e : Ending) → ReplaysTo first P J → IsNotDone second None e → IsUnblamed first second e
   second_unfinished P J e replays (inl wanting) = inl (inl wanting)

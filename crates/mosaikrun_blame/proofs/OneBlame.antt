@@ -112,13 +112,6 @@ module _ (first second : List ℕ) where
       let other = only_another_plan a.both e c in
       same_or_other a.both.plan a.both.other_plan other.0 a.same other.2
 
-  -- where both replays are done and the plans are the same, there is a text, or memory is wanting
-  pub blamed_or_memory : (both : BothReplay first second) → IsFirstOther both.plan both.other_plan None → (e : Ending) → IsUnblamed first second e → e ≡ Mem
-  blamed_or_memory both same e is = elim (cause_of e is) [
-    | inl wanting ↦ wanting
-    | inr cause ↦ let other = only_another_plan both e cause in absurd (same_or_other both.plan both.other_plan other.0 same other.2)
-  ]
-
   -- want of memory aside, what comes of two records is one
   pub one_blame : (o p : Result (List ℕ) Ending) → IsBlameOutcome first second o → IsBlameOutcome first second p → (o ≡ Err Mem → ⊥) → (p ≡ Err Mem → ⊥) → o ≡ p
   one_blame (Ok t) (Ok u) a b m n = ap Ok (one_text t u a b)

@@ -14,4 +14,3 @@ mod Recording
 mod Resuming
 mod RightCalls
 mod Rows
-mod Summing

@@ -19,23 +19,6 @@ entry g K = pair (const K) g
 abbrev pub on_value : {K X Y : Type 0} → (X → Y) → K × X → K × Y
 on_value h p = (p.0, h p.1)
 
-most_values : {K Y : Type 0} (f : Y → ℕ) (es : List (K × Y))
-    → most (λ p. max 0 (f p.1)) es ≡ most f (values_of es)
-most_values f [] = refl
-most_values f (e ∷ es) = λ i. max (sym (none_max (f e.1)) i) (most_values f es i)
-
-pub entries_puts : {g : Former {0}} (w : Weighed g) (K X : Type 0) (μ : X
-    → ℕ) (es : List (K × g.Of X)) (n : Count) (t : Row X n)
-    → deepest μ (list_count (entry g K) (map ((entry g K).shape X) es) n)
-    (list_put (entry g K) X es n t) ≡ max (most (w.weight X μ) (values_of es)) (deepest μ n t)
-entries_puts w K X μ es n t = List-puts (w_pair (w_const K) w) X μ es n t
-    ∙ ap (λ a. max a (deepest μ n t)) (most_values (w.weight X μ) es)
-
-pub values_listed : (K X : Type 0) (es : List (K × X))
-    → listed _ (children (list (entry this K)) X es) ≡ values_of es
-values_listed K X [] = refl
-values_listed K X (e ∷ es) = ap (λ l. e.1 ∷ l) (values_listed K X es)
-
 pub keys_on_values : {K X Y : Type 0} (h : X → Y) (es : List (K × X))
     → keys_of (map (on_value h) es) ≡ keys_of es
 keys_on_values h [] = refl
