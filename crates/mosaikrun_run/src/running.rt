@@ -70,7 +70,10 @@ impl Told {
     {
         match record_of(alloc, plan, journal, is_recorded) {
             Ok(record_text) => Told { text, record_text },
-            Err(_) => Told::unrecorded(Ending::Mem),
+            Err(_) => {
+                drop(text);
+                Told::unrecorded(Ending::Mem)
+            }
         }
     }
 }
