@@ -36,7 +36,6 @@ order_push (c ∷ bs) b rises less = (
 )
 
 module _ (J K : List Entry) where
-
   module _ (i : ℕ) (equal : Bool) (bs new : List Blamed) (before : IsJudged J K i equal bs) where
     -- a simulator whose talks are equal
     pub judged_same : JudgedOf (talk J i) (talk K i) i bs true new → IsJudged J K (i + 1) equal new

@@ -192,7 +192,6 @@ set_same (z ∷ zs) (suc i) x y there is same = ap (λ l. z ∷ l) (set_same zs 
 -- ---- set values and slots
 
 module _ (P : Plan) (s : ℕ) (m : Tier) (g : Gift) where
-
   pub given_more : (k : Input) (all : List Gift) → given_for P s k (all ++ g ∷ []) ≡ given_for P s k all ++ given_for P s k (g ∷ [])
   given_more k [] = refl
   given_more k (h ∷ hs) = go (given_more k hs) ((owner P h.given.entity == s) && same_key k (gift_input P h.given))

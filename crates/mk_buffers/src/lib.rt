@@ -18,4 +18,3 @@ mod tables;
 
 pub use buffers::Buffers;
 pub use laws::buffers_stand;
-pub use names::full_id;

@@ -106,8 +106,7 @@ module _ (P : Plan) (V : View) where
     -- an open turn's start stays
     pub ended_start_open : (j : ℕ) (U : OpenTurn) → (j ≡ i → ⊥) → V.open_at j ≡ Some U → start P (note_right P V i m T None) j ≡ start P V j
     ended_start_open j U n e = ended_start_apart j n ∙ ap (λ (o : Option OpenTurn). step_at o (pending P (grown V.acts i (ended_turn T m)) j)) e ∙ sym (ap (λ (o : Option OpenTurn). step_at o (pending P V.acts j)) e)
-
-  -- ---- a wrong message: the fault alone
+    -- ---- a wrong message: the fault alone
 
 -- ---- acts with one more of s: what is due, what triggers, and what they supply
 

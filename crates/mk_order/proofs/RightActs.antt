@@ -55,7 +55,6 @@ next_later kind x content n h e =
     grind (arith, ints)
 
 module _ (P : Plan) (s : ℕ) where
-
   used_next : (x : Tier) (id k : ℕ) (ms : List Message) (n : ℤ) → option_and_then whole_in (slice_get (filter_map content_of (used P s (Stepping x id k) ms)) 0) ≡ Some n → x.time <ℤ n
   used_next x id k [] n e = cc
   used_next x id k (Ask i name args named ∷ ms) n e = elim (is_wrong P s (Stepping x id k) (Ask i name args named)) as

@@ -16,7 +16,6 @@ use Rattle.mk_order.proofs.RightActs.{IsRight}
 use Rattle.mk_order.proofs.Theory.{parts, laws}
 
 module _ (P : Plan) (valid : IsValidPlan P) (R : Messages) where
-
   pub acts_right : (i : ℕ) → Each IsRight (sequential P R i)
   unfolding theory.seq laws
   acts_right i = seq_right (parts P) (laws P valid) R i

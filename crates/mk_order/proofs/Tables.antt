@@ -164,7 +164,6 @@ pub data IsLeastTrigger (P : Plan) (V : View) (s : ℕ) (x : Tier) : Option Tier
   has_trigger : (d : Tier) → IsIn d (triggers P (supply P V.acts) s) → IsBefore x d → ((y : Tier) → IsIn y (triggers P (supply P V.acts) s) → IsBefore x y → IsUpTo d y) → IsLeastTrigger P V s x (Some d)
 
 module _ (P : Plan) (V : View) (s : ℕ) (x : Tier) where
-
   -- the queue's least flagged time is the answer
   pub trigger_by : {X : Type 0} (time : X → Tier) (flag : X → Bool) (q : List X) → Pends P time flag V s q → ((y : Tier) → IsTriggeredAt P V s y → IsBefore x y → IsPendingAt P V s y)
       → (o : Option Tier) → IsLeastFlagged time flag q x o → IsLeastTrigger P V s x o

@@ -25,7 +25,6 @@ abbrev pub Gathers : {X A : Type 0} → (ℕ → X → Result A ScenarioFault) �
 Gathers test items i found = each_at test items ≡ gathered found (each_from test i (drop i items))
 
 module _ {X A : Type 0} (test : ℕ → X → Result A ScenarioFault) (items : List X) (i : ℕ) (found : List A) where
-
   module _ (x : X) (below : i < length items) (is : x ≡ get_or items i x) (so_far : Gathers test items i found) where
     next : each_at test items ≡ gathered found (all_well (test i x ∷ map (λ (p : ℕ × X). test p.0 p.1) (enumerate_from (i + 1) (drop (i + 1) items))))
     next =

@@ -31,7 +31,6 @@ module _ (P Q : Plan) (A : List Arrival) (s : Option (List Asked)) (J : List Ent
       subst (λ (X : Plan). ReplaysTo bytes X J) (sym same) so
 
 module _ (first second : List ℕ) where
-
   pub second_unfinished : (P : Plan) (J : List Entry) (e : Ending) → ReplaysTo first P J → IsNotDone second None e → IsUnblamed first second e
   second_unfinished P J e replays (inl wanting) = inl (inl wanting)
   second_unfinished P J e replays (inr stopped) = inr (inr (inr (inl (record { plan = P; journal = J; first_replays = replays; stopped = stopped }))))
