@@ -21,6 +21,7 @@ use Rattle.mk_run_crew.specs.declared.halt.Halt.{Halt}
 use Rattle.mk_run_crew.specs.declared.halt.Halt.TheVariants as halt
 use Rattle.mk_run_crew.specs.Halted.{HasHalted, ShowsCause}
 use Rattle.mk_run_crew.specs.Seen.{CrewSeen, crew_of}
+use Rattle.mk_run_crew.proofs.ButOne.{begun_answered}
 use Rattle.mk_run_crew.proofs.Stopped.{all_said}
 use Rattle.mk_run.specs.declared.outcome.Outcome.{Outcome}
 use Rattle.mk_run.specs.declared.outcome.Outcome.TheVariants as outcome
@@ -82,6 +83,7 @@ halted A C P s entries some risen h on cause stopped restless of_channels = reco
     | inr t ↦ absurd (restless t.0 after t.2)
   ];
   cause = cause;
+  answered = begun_answered A C P s.begun entries;
   on_links = or_clock_more (IsRunLink A.started A.scenario) A.log entries (on_or_clock (IsRunLink A.started A.scenario) A.log s.begun.on_links)
       (on_run_or_clock A.started A.scenario C.channels entries (λ i l linked. let t = s.begun.begun.channels i l linked in (t.0, t.1, t.2)) s.begun.back of_channels);
 }

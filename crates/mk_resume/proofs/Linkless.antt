@@ -133,20 +133,23 @@ module _ (S : Scenario) (all : is_wholly_within S ≡ true) (started faults : �
     came k (Some a) c = record { request = c.request; awaiting = c.awaiting; within = c.within; on_link = λ apart. let t = c.on_link apart in absurd (never 0 a.sim t.0 t.1) }
 
     cause : (log : List LogEntry) (queued later : List Request) (h : Halt) → ShowsCause (attempt 0 S ranks rows log) (HasRisen 0 0) queued later h → ShowsCause (attempt started S ranks rows []) (HasRisen faults faults) queued later h
-    cause log queued later (halt.Setup fault) is = record {
-      answers = is.answers;
-      last = is.last;
-      faulty = is.faulty;
-      before = [];
-      after = [];
-      parts = refl;
-      heard = record {
-        links = λ i l linked. absurd (never started i l linked);
-        kinds = is.heard.kinds;
-        came = came (length is.answers) is.last is.heard.came;
-      };
-      asked = λ i l linked. absurd (never started i l linked);
-    }
+    cause log queued later (halt.Setup fault) is = (
+      record {
+        answers = is.0.answers;
+        last = is.0.last;
+        faulty = is.0.faulty;
+        before = [];
+        after = [];
+        parts = refl;
+        heard = record {
+          links = λ i l linked. absurd (never started i l linked);
+          kinds = is.0.heard.kinds;
+          came = came (length is.0.answers) is.0.last is.0.heard.came;
+        };
+        asked = λ i l linked. absurd (never started i l linked);
+      },
+      is.1,
+    )
     cause log queued later halt.Fleet is = absurd (never_risen is)
     cause log queued later (halt.Gone sim) is = absurd (never 0 sim.0 is.0 is.1)
     cause log queued later (halt.Garbled sim test) is = absurd (never 0 sim.0 is.0 is.1)
@@ -163,6 +166,11 @@ module _ (S : Scenario) (all : is_wholly_within S ≡ true) (started faults : �
       whole = λ apart i l linked. absurd (never started i l linked);
       rests = λ before after is. absurd (restless before after is);
       cause = cause log t.queued t.later h t.cause;
+      answered = record {
+        answers = t.answered.answers;
+        heard = record { links = λ i l linked. absurd (never started i l linked); kinds = t.answered.heard.kinds; came = tt };
+        but_one = t.answered.but_one;
+      };
       on_links = tt;
     }
 

@@ -32,6 +32,7 @@ use Rattle.mk_run_crew.specs.declared.halt.Halt.TheVariants as halt
 use Rattle.mk_run_crew.specs.Begun.{HasBegun}
 use Rattle.mk_run_crew.specs.Halted.{HasHalted}
 use Rattle.mk_run_crew.specs.Seen.{CrewSeen, crew_of}
+use Rattle.mk_run_crew.proofs.ButOne.{begun_answered}
 use Rattle.mk_run_crew.proofs.Stopped.{all_said}
 use Rattle.mk_run.proofs.Inside.{here_within}
 use Rattle.mk_run.specs.inner.Underway.{Setting, reply_in, IsUnderway}
@@ -89,6 +90,7 @@ module _ (started : ℕ) (S : Scenario) (ranks : List ℕ) (rows : List Turn) (l
       | inr t ↦ absurd (restless t.0 after t.2)
     ];
     cause = tt;
+    answered = begun_answered (attempt started S ranks rows log) C P b entries;
     on_links = on_or_clock (IsRunLink started S) (log ++ entries) (on_more (IsRunLink started S) log entries b.on_links (on_run started S C.channels entries (λ i l linked. let t = b.begun.channels i l linked in (t.0, t.1, t.2)) b.back of_channels));
   }
 

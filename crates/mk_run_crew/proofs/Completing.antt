@@ -10,7 +10,7 @@ pub completes : HandshakesComplete
 completes A faults new_faults h halted fine = go h halted.cause
   where
     go : (e : Halt) → ShowsCause A (HasRisen faults new_faults) halted.queued halted.later e → e ≡ Mem
-    go (Setup fault) shown = absurd (fine.right_replies fault shown)
+    go (Setup fault) shown = absurd (fine.right_replies fault shown.0)
     go Fleet shown = absurd (fine.counts shown)
     go (Gone sim) shown = absurd (fine.open_links sim.0 shown.0 shown.1 shown.2)
     go (Garbled sim test) shown = absurd (fine.right_frames sim.0 shown.0 test shown.1 (inl shown.2))

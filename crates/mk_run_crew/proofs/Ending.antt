@@ -42,6 +42,7 @@ use Rattle.mk_run_crew.specs.inner.Asking.{IsAnswered, IsHalting}
 use Rattle.mk_run_crew.specs.Begun.{HasBegun}
 use Rattle.mk_run_crew.specs.Halted.{HasHalted, ShowsCause}
 use Rattle.mk_run_crew.specs.Seen.{CrewSeen, crew_of}
+use Rattle.mk_run_crew.proofs.ButOne.{none_asked, still_answered}
 use Rattle.mk_run_crew.proofs.Requests.{none_dropped}
 use Rattle.mk_run_crew.proofs.Simulators.{linked_away}
 use Rattle.mk_run_crew.proofs.Stopped.{all_said}
@@ -91,16 +92,19 @@ module _ (started : ℕ) (S : Scenario) (ranks : List ℕ) (rows : List Turn) wh
 
   cause_later : (log stop : List LogEntry) (risen later_risen : Type 0) (queued later : List Request) (h : Halt) → ((i : ℕ) (l : LinkNo) → sim_link started S i ≡ Some l → heard_on l (log ++ stop) ≡ heard_on l log) → (risen → later_risen)
       → ShowsCause (attempt started S ranks rows log) risen queued later h → ShowsCause (attempt started S ranks rows (log ++ stop)) later_risen queued later h
-  cause_later log stop risen later_risen queued later (halt.Setup fault) same on c = record {
-    answers = c.answers;
-    last = c.last;
-    faulty = c.faulty;
-    before = c.before;
-    after = c.after ++ stop;
-    parts = ap (λ (x : List LogEntry). x ++ stop) c.parts ∙ append_assoc c.before c.after stop;
-    heard = c.heard;
-    asked = c.asked;
-  }
+  cause_later log stop risen later_risen queued later (halt.Setup fault) same on c = (
+    record {
+      answers = c.0.answers;
+      last = c.0.last;
+      faulty = c.0.faulty;
+      before = c.0.before;
+      after = c.0.after ++ stop;
+      parts = ap (λ (x : List LogEntry). x ++ stop) c.0.parts ∙ append_assoc c.0.before c.0.after stop;
+      heard = c.0.heard;
+      asked = c.0.asked;
+    },
+    c.1,
+  )
   cause_later log stop risen later_risen queued later halt.Fleet same on c = on c
   cause_later log stop risen later_risen queued later (halt.Gone sim) same on c = (c.0, c.1, in_front (Ended c.0) log stop c.2)
   cause_later log stop risen later_risen queued later (halt.Garbled sim test) same on c = (c.0, c.1, subst (λ (x : List ℕ). BeginsGarbled (rest_heard x) test) (sym (same sim.0 c.0 c.1)) c.2)
@@ -128,6 +132,7 @@ module _ (started : ℕ) (S : Scenario) (ranks : List ℕ) (rows : List Turn) wh
     on_links = on_or_clock (IsRunLink started S) (log ++ stop) (halted_on log stop risen h C g of_channels);
     cause = cause_later log stop risen later_risen g.queued g.later h
         (λ i l e. let t = g.channels i l e in subst (λ (k : LinkNo). heard_on k (log ++ stop) ≡ heard_on k log) t.3 (heard_at_stop log stop later_risen t.1 (stopped i t.1 t.2))) on g.cause;
+    answered = still_answered (attempt started S ranks rows log) stop g.queued g.answered;
   }
 
   first_stop : IsFramed (call_text 0 Stop)
@@ -144,4 +149,5 @@ module _ (started : ℕ) (S : Scenario) (ranks : List ℕ) (rows : List Turn) wh
     on_links = tt;
     rests = λ before after is. absurd (not_empty before after Rest is);
     cause = elim why [ inl q ↦ subst (ShowsCause (attempt started S ranks rows []) risen [] (setup_requests S)) (sym q) tt | inr t ↦ subst (ShowsCause (attempt started S ranks rows []) risen [] (setup_requests S)) (sym t.0) t.1 ];
+    answered = none_asked started S ranks rows;
   }

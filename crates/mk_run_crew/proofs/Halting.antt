@@ -24,7 +24,7 @@ use Rattle.mk_run_laws.specs.inner.Running.{IsBetween, IsSettingUp}
 use Rattle.mk_run_laws.proofs.Moving.{channel_moved, moved_there, moved_back}
 use Rattle.mk_run_laws.proofs.SettingUp.{well_in_setup, not_set_up}
 use Rattle.mk_run_laws.proofs.Stepping.{first_or_second}
-use Rattle.mk_run_laws.proofs.Taking.{taken_heard, taken_rest, none_heard, garbled_none, long_none, none_first}
+use Rattle.mk_run_laws.proofs.Taking.{taken_rest, none_heard, garbled_none, long_none, none_first}
 use Rattle.mk_setup.specs.declared.fault.SetupFault.{SetupFault}
 use Rattle.mk_setup.specs.declared.fault.SetupFault.TheVariants as fault
 use Rattle.mk_setup.specs.Handshakes.{IsFaultyAfter}
@@ -35,21 +35,16 @@ use Rattle.mk_run_links.specs.Halts.{ShowsHalt}
 use Rattle.mk_run_links.specs.Places.{Channels, at, crew}
 use Rattle.mk_run_crew.specs.declared.halt.Halt.{Halt}
 use Rattle.mk_run_crew.specs.declared.halt.Halt.TheVariants as halt
-use Rattle.mk_run_crew.specs.Answers.{answers_to, AreHeard, AreKindAnswers}
+use Rattle.mk_run_crew.specs.Answers.{answers_to}
 use Rattle.mk_run_crew.specs.inner.Asking.{AreAt, AsksNot, AsksInVain, AsksWithin, AsksOnLink, IsAnswered, IsHalting, IsLongCall, setup_halt}
 use Rattle.mk_run_crew.specs.Calls.{halt_of}
-use Rattle.mk_run_crew.specs.Halted.{IsAskedUpTo, IsSetupFault, RestRight, ShowsCause, count_to}
+use Rattle.mk_run_crew.specs.Halted.{IsAskedUpTo, IsFoundAtOnce, RestRight, ShowsCause, count_to}
 use Rattle.mk_run_crew.specs.Seen.{CrewSeen, is_here}
+use Rattle.mk_run_crew.proofs.ButOne.{all_answered, channel_heard, heard_so_far, one_unanswered}
 use Rattle.mk_run_crew.proofs.Going.{asked_on, heard_moved, heard_there, set_up_so, within_more, within_so}
 use Rattle.mk_run_crew.proofs.Requests.{answers_pushed, count_pushed, cut_at, kinds_pushed}
 use Rattle.mk_run_crew.proofs.Simulators.{linked_away}
 use Rattle.mk_run_links.proofs.Standing.{set_back}
-
--- ---- a channel's messages are the first that were heard
-
-pub channel_heard : (log : List LogEntry) (ms : List Message) (payloads : List (List ℕ)) (next : ℕ) (w : Channel) (l : LinkNo) → w.link ≡ l → IsChannelAt log ms payloads next w → BeginsWith (messages_heard (heard_on l log)) ms
-channel_heard log ms payloads next w l same at =
-    subst (λ (k : LinkNo). BeginsWith (messages_heard (heard_on k log)) ms) same (messages_heard w.held, taken_heard (heard_on w.link log) ms w.held at.heard)
 
 -- what is held is behind them, where no message is held
 pub channel_rest : (log : List LogEntry) (ms : List Message) (payloads : List (List ℕ)) (next : ℕ) (w : Channel) (l : LinkNo) → w.link ≡ l → IsChannelAt log ms payloads next w → first_message w.held ≡ None → rest_heard (heard_on l log) ≡ w.held
@@ -81,27 +76,19 @@ module _ (started : ℕ) (S : Scenario) (ranks : List ℕ) (rows : List Turn) wh
     channels = channels_at a.replies log C.channels (take (length answers) (setup_requests S)) (drop (length answers) (setup_requests S)) a.between;
     rests = (a.between).rests;
     cause = cause;
+    answered = all_answered started S ranks rows log answers C a;
     back = a.back;
     on_links = a.on_links;
   }
 
   -- a fault is a cause, unless memory was wanting
-  pub fault_causes : (log : List LogEntry) (risen : Type 0) (queued later : List Request) (e : SetupFault) → ((e ≡ fault.Mem → ⊥) → IsSetupFault (attempt started S ranks rows log) e) → ShowsCause (attempt started S ranks rows log) risen queued later (setup_halt e)
+  pub fault_causes : (log : List LogEntry) (risen : Type 0) (queued later : List Request) (e : SetupFault) → ((e ≡ fault.Mem → ⊥) → IsFoundAtOnce (attempt started S ranks rows log) queued e) → ShowsCause (attempt started S ranks rows log) risen queued later (setup_halt e)
   fault_causes log risen queued later (fault.Meta sim f) shown = shown (λ q. cc)
   fault_causes log risen queued later (fault.Create sim f) shown = shown (λ q. cc)
   fault_causes log risen queued later (fault.Connect f) shown = shown (λ q. cc)
   fault_causes log risen queued later (fault.Unasked sim) shown = shown (λ q. cc)
   fault_causes log risen queued later (fault.Failed sim text) shown = shown (λ q. cc)
   fault_causes log risen queued later fault.Mem shown = tt
-
-  -- the answers so far were heard
-  pub heard_so_far : (log : List LogEntry) (answers : List Message) (C : CrewSeen) → IsAnswered started S rows log answers C → AreHeard started S rows log answers None
-  heard_so_far log answers C a = record {
-    links = λ i l e. let t = (a.between).channels i l e in subst (BeginsWith (messages_heard (heard_on l log))) (a.told i l e ∙ sym (append_nil (answers_to i (setup_requests S) answers)))
-        (channel_heard log (a.replies i) _ _ t.0 l t.2 t.3);
-    kinds = subst (AreKindAnswers rows S) (sym (append_nil answers)) a.kinds;
-    came = tt;
-  }
 
   -- no later request was said than were queued
   asked_at : (log : List LogEntry) (k : ℕ) (L : Channels) → AreAt started S log (take k (setup_requests S)) L → IsAskedUpTo started S log k
@@ -113,16 +100,19 @@ module _ (started : ℕ) (S : Scenario) (ranks : List ℕ) (rows : List Turn) wh
   -- the next request can't be made
   pub next_halts : (log : List LogEntry) (risen : Type 0) (answers : List Message) (C : CrewSeen) (e : SetupFault) → IsAnswered started S rows log answers C → ((e ≡ fault.Mem → ⊥) → IsFaultyAfter S ranks answers None e) → IsHalting (attempt started S ranks rows log) risen (setup_halt e) C
   next_halts log risen answers C e a faulty = between_halts log risen (setup_halt e) answers C a
-      (fault_causes log risen (take (length answers) (setup_requests S)) (drop (length answers) (setup_requests S)) e (λ some. record {
-        answers = answers;
-        last = None;
-        faulty = faulty some;
-        before = log;
-        after = [];
-        parts = sym (append_nil log);
-        heard = heard_so_far log answers C a;
-        asked = asked_at log (length answers) C.channels (channels_at a.replies log C.channels (take (length answers) (setup_requests S)) (drop (length answers) (setup_requests S)) a.between);
-      }))
+      (fault_causes log risen (take (length answers) (setup_requests S)) (drop (length answers) (setup_requests S)) e (λ some. (
+        record {
+          answers = answers;
+          last = None;
+          faulty = faulty some;
+          before = log;
+          after = [];
+          parts = sym (append_nil log);
+          heard = heard_so_far started S ranks rows log answers C a;
+          asked = asked_at log (length answers) C.channels (channels_at a.replies log C.channels (take (length answers) (setup_requests S)) (drop (length answers) (setup_requests S)) a.between);
+        },
+        refl,
+      )))
 
   -- the next request isn't made
   pub unasked_halts : (log entries : List LogEntry) (risen : Type 0) (h : Halt) (answers : List Message) (C D : CrewSeen) (r : Request) (id : ℕ) → IsAnswered started S rows log answers C → slice_get (setup_requests S) (length answers) ≡ Some r
@@ -199,6 +189,7 @@ module _ (started : ℕ) (S : Scenario) (ranks : List ℕ) (rows : List Turn) wh
     rests = rests_on a.replies log entries v.mid done r later up (a.between).rests (v.unheard).parked;
     cause = subst (ShowsCause (attempt started S ranks rows (log ++ entries)) risen (done ++ r ∷ []) later) (sym v.is)
         (link_causes log entries risen (done ++ r ∷ []) later D.channels v.why v.shown at_log back (λ q. rose (v.is ∙ ap halt_of q)));
+    answered = one_unanswered started S ranks rows log entries answers C r a;
     back = back;
     on_links = asked_on started S rows log entries a.replies (take (length answers) (setup_requests S)) (drop (length answers) (setup_requests S)) C v.mid r.sim v.channel _ a.on_links a.between a.back v.set refl v.on_links;
   }
@@ -233,29 +224,33 @@ module _ (started : ℕ) (S : Scenario) (ranks : List ℕ) (rows : List Turn) wh
     parts = up.parts ∙ sym (append_assoc done (r ∷ []) later);
     channels = λ i k q. let t = channel i k q in (a.replies i ++ given_by from m i, t.0, t.1, t.2, t.3);
     rests = rests_on a.replies log entries v.mid done r later up (a.between).rests moved.1;
-    cause = fault_causes (log ++ entries) risen (done ++ r ∷ []) later e (λ some. record {
-      answers = answers;
-      last = Some (record { sim = from; message = m });
-      faulty = faulty some;
-      before = log ++ entries;
-      after = [];
-      parts = sym (append_nil (log ++ entries));
-      heard = record {
-        links = λ i k q. let t = channel i k q in subst (BeginsWith (messages_heard (heard_on k (log ++ entries))))
-            (ap (λ (ms : List Message). ms ++ given_by from m i) (a.told i k q) ∙ ap (λ (ms : List Message). answers_to i (setup_requests S) answers ++ ms) (last_given from m i))
-            (channel_heard (log ++ entries) (a.replies i ++ given_by from m i) _ _ t.0 k t.2 t.3);
-        kinds = kinds_pushed rows S answers r m a.kinds asked (λ w. absurd (true≢false (sym w ∙ (linked_away rows started S r.sim l linked).1)));
-        came = record {
-          request = r;
-          awaiting = asked;
-          within = λ w. absurd (true≢false (sym w ∙ (linked_away rows started S r.sim l linked).1));
-          on_link = λ apart. let w = heard_there started S rows entries from m v.mid D.channels v.heard in let c = set_back r.sim v.channel _ C.channels v.mid v.set refl from w.0 w.1 in a.back from c.0 c.1;
+    cause = fault_causes (log ++ entries) risen (done ++ r ∷ []) later e (λ some. (
+      record {
+        answers = answers;
+        last = Some (record { sim = from; message = m });
+        faulty = faulty some;
+        before = log ++ entries;
+        after = [];
+        parts = sym (append_nil (log ++ entries));
+        heard = record {
+          links = λ i k q. let t = channel i k q in subst (BeginsWith (messages_heard (heard_on k (log ++ entries))))
+              (ap (λ (ms : List Message). ms ++ given_by from m i) (a.told i k q) ∙ ap (λ (ms : List Message). answers_to i (setup_requests S) answers ++ ms) (last_given from m i))
+              (channel_heard (log ++ entries) (a.replies i ++ given_by from m i) _ _ t.0 k t.2 t.3);
+          kinds = kinds_pushed rows S answers r m a.kinds asked (λ w. absurd (true≢false (sym w ∙ (linked_away rows started S r.sim l linked).1)));
+          came = record {
+            request = r;
+            awaiting = asked;
+            within = λ w. absurd (true≢false (sym w ∙ (linked_away rows started S r.sim l linked).1));
+            on_link = λ apart. let w = heard_there started S rows entries from m v.mid D.channels v.heard in let c = set_back r.sim v.channel _ C.channels v.mid v.set refl from w.0 w.1 in a.back from c.0 c.1;
+          };
         };
-      };
-      asked = asked_at (log ++ entries) (suc (length answers)) D.channels
-          (subst (λ (rs : List Request). AreAt started S (log ++ entries) rs D.channels) (sym (cut_at (length answers) r (setup_requests S) asked).0)
-          (λ i k q. let t = channel i k q in (a.replies i ++ given_by from m i, t.0, t.1, t.2, t.3)));
-    });
+        asked = asked_at (log ++ entries) (suc (length answers)) D.channels
+            (subst (λ (rs : List Request). AreAt started S (log ++ entries) rs D.channels) (sym (cut_at (length answers) r (setup_requests S) asked).0)
+            (λ i k q. let t = channel i k q in (a.replies i ++ given_by from m i, t.0, t.1, t.2, t.3)));
+      },
+      sym (cut_at (length answers) r (setup_requests S) asked).0,
+    ));
+    answered = one_unanswered started S ranks rows log entries answers C r a;
     back = back;
     on_links = asked_on started S rows log entries a.replies (take (length answers) (setup_requests S)) (drop (length answers) (setup_requests S)) C v.mid r.sim v.channel _ a.on_links a.between a.back v.set refl v.on_links;
   }
@@ -285,22 +280,25 @@ module _ (started : ℕ) (S : Scenario) (ranks : List ℕ) (rows : List Turn) wh
       → IsHalting (attempt started S ranks rows (log ++ entries)) risen (setup_halt e) D
   refused_within log entries risen answers C D r id from m e a asked numbered v same_places faulty = between_halts (log ++ entries) risen (setup_halt e) (answers ++ m ∷ []) D b
       (fault_causes (log ++ entries) risen (take (length (answers ++ m ∷ [])) (setup_requests S)) (drop (length (answers ++ m ∷ [])) (setup_requests S)) e
-      (λ some. record {
-        answers = answers;
-        last = Some (record { sim = from; message = m });
-        faulty = faulty some;
-        before = log ++ entries;
-        after = [];
-        parts = sym (append_nil (log ++ entries));
-        heard = record {
-          links = links;
-          kinds = b.kinds;
-          came = record { request = r; awaiting = asked; within = λ w. v.same_sim; on_link = λ apart. absurd (true≢false (sym (within_so started S rows (length answers) r.sim (v.called).sim (sym (a.sims r.sim) ∙ (v.called).there)) ∙ apart)) };
-        };
-        asked = subst (IsAskedUpTo started S (log ++ entries)) (count_pushed answers m)
-            (asked_at (log ++ entries) (length (answers ++ m ∷ [])) D.channels
-            (channels_at b.replies (log ++ entries) D.channels (take (length (answers ++ m ∷ [])) (setup_requests S)) (drop (length (answers ++ m ∷ [])) (setup_requests S)) b.between));
-      }))
+      (λ some. (
+        record {
+          answers = answers;
+          last = Some (record { sim = from; message = m });
+          faulty = faulty some;
+          before = log ++ entries;
+          after = [];
+          parts = sym (append_nil (log ++ entries));
+          heard = record {
+            links = links;
+            kinds = b.kinds;
+            came = record { request = r; awaiting = asked; within = λ w. v.same_sim; on_link = λ apart. absurd (true≢false (sym (within_so started S rows (length answers) r.sim (v.called).sim (sym (a.sims r.sim) ∙ (v.called).there)) ∙ apart)) };
+          };
+          asked = subst (IsAskedUpTo started S (log ++ entries)) (count_pushed answers m)
+              (asked_at (log ++ entries) (length (answers ++ m ∷ [])) D.channels
+              (channels_at b.replies (log ++ entries) D.channels (take (length (answers ++ m ∷ [])) (setup_requests S)) (drop (length (answers ++ m ∷ [])) (setup_requests S)) b.between));
+        },
+        ap (λ (k : ℕ). take k (setup_requests S)) (count_pushed answers m),
+      )))
     where
       b : IsAnswered started S rows (log ++ entries) (answers ++ m ∷ []) D
       b = within_more started S rows log entries answers C D r id from m a asked numbered v same_places

@@ -1,6 +1,7 @@
 -- The lemmas of mk_run_crew, by their files.
 pub mod Answered
 mod Asked
+pub mod ButOne
 mod Completing
 mod Composing
 mod Ending

@@ -49,7 +49,7 @@ new_open started rows S open_links C n i w e =
 
 -- a halt of a handshake that the fleet had no part in is one whatever its count of faults does
 pub halting_anyhow : (A : Attempt) (risen : Type 0) (h : Halt) (C : CrewSeen) → IsHalting A ⊥ h C → IsHalting A risen h C
-halting_anyhow A risen h C g = record { queued = g.queued; later = g.later; parts = g.parts; channels = g.channels; back = g.back; rests = g.rests; cause = cause h g.cause; on_links = g.on_links }
+halting_anyhow A risen h C g = record { queued = g.queued; later = g.later; parts = g.parts; channels = g.channels; back = g.back; rests = g.rests; cause = cause h g.cause; answered = g.answered; on_links = g.on_links }
   where
     cause : (k : Halt) → ShowsCause A ⊥ g.queued g.later k → ShowsCause A risen g.queued g.later k
     cause (halt.Setup fault) c = c

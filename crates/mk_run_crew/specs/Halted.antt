@@ -1,5 +1,5 @@
 -- What is left where a crew doesn't begin, and why it doesn't.
-use Rattle.std.specs.Prelude.{◌≡◌, ℕ, suc, ◌<◌, List, [], ◌∷◌, ◌++◌, length, take, filter_map, Option, Some, None, ⊤, true}
+use Rattle.std.specs.Prelude.{◌≡◌, ℕ, suc, ◌<◌, ◌≤◌, List, [], ◌∷◌, ◌++◌, length, take, filter_map, Option, Some, None, ⊤, true}
 use Rattle.mk_base.specs.declared.LinkNo.{LinkNo}
 use Rattle.mk_base.specs.Lists.{BeginsWith, IsIn}
 use Rattle.mk_frame.specs.Frames.{IsTooLong, frames_of, limit}
@@ -52,6 +52,12 @@ pub record IsSetupFault (A : Attempt) (fault : SetupFault) : Type 0 where
   pub heard : AreHeard A.started A.scenario A.rows before answers last
   pub asked : IsAskedUpTo A.started A.scenario before (made_by answers last)
 
+-- what was heard makes this fault of the handshake, and no request was queued but those that were
+-- made by then
+abbrev pub IsFoundAtOnce : Attempt → List Request → SetupFault → Type 0
+IsFoundAtOnce A queued fault = (s : IsSetupFault A fault)
+    × (queued ≡ take (made_by s.answers s.last) (setup_requests A.scenario))
+
 -- the payload of the first of the requests that are left, to simulator s with a link, has n bytes,
 -- which is more than a frame may have
 pub record IsLongRequest (started : ℕ) (S : Scenario) (queued later : List Request)
@@ -65,11 +71,11 @@ pub record IsLongRequest (started : ℕ) (S : Scenario) (queued later : List Req
   pub bytes : n ≡ length (call_text (count_to s queued) now.call)
   pub beyond : limit < n
 
--- why there is no crew: the handshake has a fault; the count of faults rose; a link ended, or what
--- came on it behind its messages begins with something else; a request was too long; or memory was
--- wanting
+-- why there is no crew: the handshake has a fault, after which nothing more was asked; the count of
+-- faults rose; a link ended, or what came on it behind its messages begins with something else; a
+-- request was too long; or memory was wanting
 abbrev pub ShowsCause : Attempt → Type 0 → List Request → List Request → Halt → Type 0
-ShowsCause A risen queued later (halt.Setup fault) = IsSetupFault A fault
+ShowsCause A risen queued later (halt.Setup fault) = IsFoundAtOnce A queued fault
 ShowsCause A risen queued later halt.Fleet = risen
 ShowsCause A risen queued later (halt.Gone sim) = (l : LinkNo)
     × (sim_link A.started A.scenario sim.0 ≡ Some l) × IsIn (Ended l) A.log
@@ -87,11 +93,18 @@ abbrev pub RestRight : ℕ → Scenario → List LogEntry → Type 0
 RestRight started S log = (before after : List LogEntry) → log ≡ before ++ Rest ∷ after
     → IsWellInSetup started S before × (AllSetUp started S before → ⊥)
 
+-- of the requests that were queued all but one at most have answers, which were heard in their order
+pub record AreAnsweredButOne (A : Attempt) (queued : List Request) : Type 0 where
+  pub answers : List Message
+  pub heard : AreHeard A.started A.scenario A.rows A.log answers None
+  pub but_one : length queued ≤ suc (length answers)
+
 -- the handshake ended early: on each link a beginning of the frames of the first requests and of a
 -- stop was said, none with a payload longer than a frame's may be, and all of it, unless a write
 -- took nothing or the count of faults rose, or memory was wanting before anything was said or heard
 -- on any link; where the fleet rested, what was asked by then had been said, and not all had set
--- up; no link but the run's was read or written; and the halt shows its cause
+-- up; no link but the run's was read or written; the halt shows its cause; and at most one request
+-- was queued to which no answer was heard
 pub record HasHalted (A : Attempt) (risen : Type 0) (h : Halt) : Type 0 where
   pub queued : List Request
   pub later : List Request
@@ -103,4 +116,5 @@ pub record HasHalted (A : Attempt) (risen : Type 0) (h : Halt) : Type 0 where
       → SaidWhole A.scenario A.log risen i l (count_to i queued) []
   pub rests : RestRight A.started A.scenario A.log
   pub cause : ShowsCause A risen queued later h
+  pub answered : AreAnsweredButOne A queued
   pub on_links : AreOnOrOfClock (IsRunLink A.started A.scenario) A.log

@@ -39,7 +39,7 @@ use Rattle.mk_run_crew.specs.declared.halt.Halt.TheVariants as halt
 use Rattle.mk_run_crew.specs.Answers.{answers_to, sim_after, AreKindAnswers}
 use Rattle.mk_run_crew.specs.Begun.{HasBegun}
 use Rattle.mk_run_crew.specs.Calls.{halt_of}
-use Rattle.mk_run_crew.specs.Halted.{RestRight, ShowsCause, count_to}
+use Rattle.mk_run_crew.specs.Halted.{AreAnsweredButOne, RestRight, ShowsCause, count_to}
 use Rattle.mk_run_crew.specs.Seen.{CrewSeen, within_of, is_here}
 
 -- simulator i, within the program, answered at once
@@ -257,4 +257,5 @@ pub record IsHalting (A : Attempt) (risen : Type 0) (h : Halt) (C : CrewSeen) : 
       × (sim_link A.started A.scenario i ≡ Some l)
   pub rests : RestRight A.started A.scenario A.log
   pub cause : ShowsCause A risen queued later h
+  pub answered : AreAnsweredButOne A queued
   pub on_links : AreOn (IsRunLink A.started A.scenario) A.log
