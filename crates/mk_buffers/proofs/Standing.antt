@@ -7,7 +7,6 @@ use Rattle.mk_base.specs.Tiers.{IsUpTo}
 use Rattle.mk_base.proofs.Lists.{some_same, set_here, set_else, in_either}
 use Rattle.mk_plan.specs.declared.Plan.{Plan}
 use Rattle.mk_plan.specs.Plans.{owner, eid_of}
-use Rattle.mk_plan.specs.Asks.{gives_attr}
 use Rattle.mk_plan.specs.Deliveries.{Timed, Supply}
 use Rattle.mk_plan.specs.Inputs.{latest, value_at}
 use Rattle.std.proofs.lemmas.Slice.Eq.{bytes_eq-Decides}

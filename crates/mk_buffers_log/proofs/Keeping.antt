@@ -1,8 +1,9 @@
 -- How many outputs a walk that gives up what is overtaken leaves, and until which mark no more of
 -- them may be given up.
-use Rattle.std.proofs.Common.{◌≡◌, ◌⊎◌, inl, inr, ℕ, zero, suc, ◌+◌, ◌-◌, ◌<◌, ◌≤◌, ℤ, Bool, true, false, not, ◌&&◌, ◌||◌, cond, List, [], ◌∷◌, ◌++◌, length, filter, get_or, take, Some, refl, sym, ap, subst, ◌∙◌, arith, true≢false, int_lt, int_le, length-append}
-use Rattle.std.proofs.lemmas.List.{take_more}
-use Rattle.std.specs.List.{list_all, list_any, remove, insert}
+use Rattle.std.proofs.Common.{◌≡◌, ◌⊎◌, inl, inr, ℕ, zero, suc, ◌+◌, ◌<◌, ◌≤◌, ℤ, Bool, true, false, ◌&&◌, ◌||◌, cond, List, [], ◌∷◌, ◌++◌, length, filter, get_or, take, Option, Some, refl, sym, ap, subst, ◌∙◌, arith, true≢false, int_lt, int_le, length-append}
+use Rattle.std.proofs.lemmas.List.{take_all, take_more}
+use Rattle.std.specs.List.{list_all, remove, insert}
+use Rattle.std.specs.List.Sorted.{IsPartitionPoint}
 use Rattle.std.proofs.lemmas.Int.{ints}
 use Rattle.mk_base.specs.declared.tier.Tier.{Tier}
 use Rattle.mk_base.specs.declared.tier.Via.{Via}
@@ -12,9 +13,9 @@ use Rattle.mk_base.proofs.TierOrder.{up_to_trans, delayed_keeps}
 use Rattle.mk_base.proofs.Lists.{filter_append, in_at, at_in, get_is}
 use Rattle.mk_buffers_log.proofs.Places.{get_some}
 use Rattle.mk_plan.specs.Deliveries.{Timed}
-use Rattle.mk_buffers_log.specs.Logs.{is_settled, IsAmong, IsFew}
-use Rattle.mk_buffers_log.specs.inner.Logs.{does_come, IsAscending, is_past, is_overtaken, is_held_up, IsRest, IsFirstToCome}
-use Rattle.mk_buffers_log.proofs.Ascending.{ascending_at, get_or_any, list_all_in, comes_downward, comes_in_time, in_time_before}
+use Rattle.mk_buffers_log.specs.Logs.{is_settled, is_due, IsAmong, IsFew, StaysFew}
+use Rattle.mk_buffers_log.specs.inner.Logs.{does_come, comes_with, IsAscending, IsBehind, is_overtaken, IsRest}
+use Rattle.mk_buffers_log.proofs.Ascending.{ascending_at, anything, get_or_any, list_all_in, comes_downward, comes_in_time, IsDownward}
 use Rattle.mk_base.proofs.Counts.{at_most_one, before_end, one_less}
 use Rattle.mk_base.proofs.Bools.{and_holds, both_hold}
 
@@ -76,9 +77,9 @@ implied f g (t ∷ ts) h = go (implied f g ts (λ u m. h u (inr m))) (f t) (g t)
     go rest false true p q = omega (arith, rest)
     go rest false false p q = rest
 
--- what has come has come by each of the delays
-pub past_at : (vs : List Via) (i : ℕ) (v : Via) (m x : Tier) → i < length vs → v ≡ get_or vs i v → is_past vs m x ≡ true → IsUpTo (delayed x v) m
-past_at vs i v m x there is past = list_all_in (λ v. up_to (delayed x v) m) vs v (both_hold (up_to x m) (list_all (λ v. up_to (delayed x v) m) vs) past).1 (at_in v vs i (get_some vs i v there is))
+-- what is settled has come by each of the delays, or never comes before the run's end
+pub settled_at : (vs : List Via) (i : ℕ) (v : Via) (until : ℤ) (m x : Tier) → i < length vs → v ≡ get_or vs i v → is_settled vs until m x ≡ true → up_to (delayed x v) m || int_le until (delayed x v).time ≡ true
+settled_at vs i v until m x there is s = list_all_in (λ v. up_to (delayed x v) m || int_le until (delayed x v).time) vs v (both_hold (up_to x m) (list_all (λ v. up_to (delayed x v) m || int_le until (delayed x v).time) vs) s).1 (at_in v vs i (get_some vs i v there is))
 
 -- ---- how many questions at the mark an output may answer
 
@@ -161,15 +162,16 @@ module _ (vias : List Via) (until : ℤ) (mark : Tier) where
 
   -- those before the place, and what the one there may answer
   pub record IsWalked (ts : List Timed) (p : ℕ) : Type 0 where
-    pub inside : 0 < length ts → p < length ts
     pub few : (d : Timed) → p < length ts → length (filter (λ t. is_settled vias until mark t.at) (take p ts)) + alive vias until mark (get_or ts p d).at ≤ length vias + 1
+    pub all : length ts ≤ p → IsFew vias until mark ts
 
   pub walked_none : (ts : List Timed) → IsWalked ts 0
-  walked_none ts = record { inside = λ h. h; few = λ d h. omega (arith, alive_most vias until mark (get_or ts 0 d).at) }
+  walked_none [] = record { few = λ d h. absurd (omega (arith, h)); all = λ h. omega arith }
+  walked_none (t ∷ ts) = record { few = λ d h. omega (arith, alive_most vias until mark t.at); all = λ h. absurd (omega (arith, h)) }
 
   pub walked_drop : (ts new : List Timed) (p : ℕ) → IsAscending ts → p + 1 < length ts → new ≡ remove ts p → length new + 1 ≡ length ts → IsWalked ts p → IsWalked new p
   walked_drop ts new p up there gone count w = record {
-    inside = λ h. omega (arith, count, there);
+    all = λ h. absurd (omega (arith, count, there, h));
     few = λ d h. rw (gone, take_remove ts p, get_remove ts p d)
         (omega (arith, w.few d (omega (arith, there)), alive_falls vias until mark (get_or ts p d).at (get_or ts (suc p) d).at (ascending_at ts p (suc p) d up (omega arith) (omega (arith, there)))));
   }
@@ -179,7 +181,7 @@ module _ (vias : List Via) (until : ℤ) (mark : Tier) where
 
   pub walked_next : (ts : List Timed) (p : ℕ) (d e : Timed) → IsAscending ts → p + 1 < length ts → d ≡ get_or ts p d → e ≡ get_or ts (p + 1) e → is_overtaken vias until mark d.at e.at ≡ false → IsWalked ts p → IsWalked ts (p + 1)
   walked_next ts p d e up there is next over w = record {
-    inside = λ h. there;
+    all = λ h. absurd (omega (arith, h, there));
     few = λ f h. rw (next_count ts p f (omega (arith, there)), get_or_any ts (p + 1) f e there, sym next, get_or_any ts p f d (omega (arith, there)), sym is) (go (settled d) refl);
   }
     where
@@ -209,27 +211,83 @@ module _ (vias : List Via) (until : ℤ) (mark : Tier) where
       go true e = absurd (true≢false (sym (up_to_trans x y m h e) ∙ k))
       go false e = refl
 
-  never_or : (x : Tier) → int_lt x.time until ≡ true → int_le until x.time ≡ false
-  never_or x h = grind (arith, ints)
+  none_between : (test : Timed → Bool) (ts : List Timed) (p q : ℕ) → p ≤ q → ((k : ℕ) (d : Timed) → p ≤ k → k < q → test (get_or ts k d) ≡ false) → filter test (take q ts) ≡ filter test (take p ts)
+  none_between test [] zero zero le h = refl
+  none_between test [] zero (suc q) le h = refl
+  none_between test [] (suc p) zero le h = refl
+  none_between test [] (suc p) (suc q) le h = refl
+  none_between test (t ∷ ts) zero zero le h = refl
+  none_between test (t ∷ ts) zero (suc q) le h = rw (h 0 t (omega arith) (omega arith)) (none_between test ts zero q (omega arith) (λ k d low high. h (suc k) d (omega arith) (omega arith)))
+  none_between test (t ∷ ts) (suc p) zero le h = absurd (omega (arith, le))
+  none_between test (t ∷ ts) (suc p) (suc q) le h = ap (λ (l : List Timed). cond (test t) (t ∷ l) l) (none_between test ts p q (omega arith) (λ k d low high. h (suc k) d (omega arith) (omega arith)))
 
-  -- what is held up isn't settled, nor is what was made later
-  held_later : (vs : List Via) (x y l : Tier) → IsUpTo x y → IsUpTo y l → list_any (λ v. not (up_to (delayed x v) mark) && int_lt (delayed l v).time until) vs ≡ true → list_all (λ v. up_to (delayed y v) mark || int_le until (delayed y v).time) vs ≡ false
-  held_later [] x y l h k held = absurd (true≢false (sym held))
-  held_later (v ∷ vs) x y l h k held = go (λ r. held_later vs x y l h k r) (up_to (delayed x v) mark) (int_lt (delayed l v).time until) refl refl
+  -- of those that come over the same delays, none is settled before an earlier one
+  one_back : (x y m : Tier) → IsUpTo x y → int_le until x.time || int_lt y.time until ≡ true → up_to y m || int_le until y.time ≡ true → up_to x m || int_le until x.time ≡ true
+  one_back x y m h k s = grind (arith, ints)
+
+  all_back : (vs : List Via) (m x y : Tier) → IsUpTo x y → comes_with vs until x y ≡ true → list_all (λ v. up_to (delayed y v) m || int_le until (delayed y v).time) vs ≡ true → list_all (λ v. up_to (delayed x v) m || int_le until (delayed x v).time) vs ≡ true
+  all_back [] m x y h k s = refl
+  all_back (v ∷ vs) m x y h k s =
+      let c = both_hold (int_le until (delayed x v).time || int_lt (delayed y v).time until) (comes_with vs until x y) k in
+      let r = both_hold (up_to (delayed y v) m || int_le until (delayed y v).time) (list_all (λ v. up_to (delayed y v) m || int_le until (delayed y v).time) vs) s in
+      and_holds (up_to (delayed x v) m || int_le until (delayed x v).time) (list_all (λ v. up_to (delayed x v) m || int_le until (delayed x v).time) vs)
+      (one_back (delayed x v) (delayed y v) m (delayed_keeps x y v h) c.0 r.0) (all_back vs m x y h c.1 r.1)
+
+  settled_back : (m x y : Tier) → IsUpTo x y → comes_with vias until x y ≡ true → is_settled vias until m y ≡ true → is_settled vias until m x ≡ true
+  settled_back m x y h k s =
+      let r = both_hold (up_to y m) (list_all (λ v. up_to (delayed y v) m || int_le until (delayed y v).time) vias) s in
+      and_holds (up_to x m) (list_all (λ v. up_to (delayed x v) m || int_le until (delayed x v).time) vias) (up_to_trans x y m h r.0) (all_back vias m x y h k r.1)
+
+  one_with : (x : Tier) → int_le until x.time || int_lt x.time until ≡ true
+  one_with x = grind (arith, ints)
+
+  with_self : (vs : List Via) (x : Tier) → comes_with vs until x x ≡ true
+  with_self [] x = refl
+  with_self (v ∷ vs) x = and_holds (int_le until (delayed x v).time || int_lt (delayed x v).time until) (comes_with vs until x x) (one_with (delayed x v)) (with_self vs x)
+
+  one_with_before : (x y z : Tier) → IsUpTo y z → int_le until x.time || int_lt z.time until ≡ true → int_le until x.time || int_lt y.time until ≡ true
+  one_with_before x y z h k = grind (arith, ints)
+
+  with_before : (vs : List Via) (x y z : Tier) → IsUpTo y z → comes_with vs until x z ≡ true → comes_with vs until x y ≡ true
+  with_before [] x y z h k = refl
+  with_before (v ∷ vs) x y z h k =
+      let c = both_hold (int_le until (delayed x v).time || int_lt (delayed z v).time until) (comes_with vs until x z) k in
+      and_holds (int_le until (delayed x v).time || int_lt (delayed y v).time until) (comes_with vs until x y) (one_with_before (delayed x v) (delayed y v) (delayed z v) (delayed_keeps y z v h) c.0) (with_before vs x y z h c.1)
+
+  pub with_downward : (x : Tier) → IsDownward (comes_with vias until x)
+  with_downward x y z h k = with_before vias x y z h k
+
+  low_or : (k n : ℕ) → (k < n) ⊎ (n ≤ k)
+  low_or k n = grind arith
+
+  pub behind_rest : (ts : List Timed) (p q : ℕ) (e : Timed) → IsAscending ts → p < length ts → e ≡ get_or ts p e → ((d : Timed) → is_settled vias until mark (get_or ts p d).at ≡ false) → q ≤ length ts
+      → IsPartitionPoint (λ t. comes_with vias until e.at t.at ≡ true) (λ t. comes_with vias until e.at t.at ≡ false) ts q → IsBehind vias until mark ts p q
+  behind_rest ts p q e up there is unsettled within parts = record {
+    more = elim (low_or p q) [
+      | inl l ↦ l
+      | inr h ↦ absurd (true≢false (sym (with_self vias e.at) ∙ subst (λ (u : Timed). comes_with vias until e.at u.at ≡ false) (sym is) (parts.1 p e h there)))
+    ];
+    within = within;
+    later = λ m k d low high s. settled_back m (get_or ts p d).at (get_or ts k d).at (ascending_at ts p k d up low (omega (arith, high, within)))
+        (subst (λ (u : Timed). comes_with vias until u.at (get_or ts k d).at ≡ true) (is ∙ get_or_any ts p e d there) (parts.0 k d (omega arith) high)) s;
+    alone = λ d s. absurd (true≢false (sym s ∙ unsettled d));
+  }
+
+  pub walked_jump : (ts : List Timed) (p q : ℕ) → IsAscending ts → p + 1 < length ts → IsBehind vias until mark ts p q → IsWalked ts (p + 1) → IsWalked ts q
+  walked_jump ts p q up there b w = record {
+    few = λ d h. rw none (omega (arith, w.few d there, alive_falls vias until mark (get_or ts (p + 1) d).at (get_or ts q d).at (ascending_at ts (p + 1) q d up (omega (arith, b.more)) h)));
+    all = λ h. omega (arith, ap (λ (l : List Timed). length (filter settled l)) (sym (take_all q ts h)) ∙ ap length none, w.few anything there);
+  }
     where
-      fails : (b : Bool) → list_all (λ v. up_to (delayed y v) mark || int_le until (delayed y v).time) vs ≡ false → b && list_all (λ v. up_to (delayed y v) mark || int_le until (delayed y v).time) vs ≡ false
-      fails true e = e
-      fails false e = refl
+      between : (k : ℕ) (d : Timed) → p + 1 ≤ k → k < q → settled (get_or ts k d) ≡ false
+      between k d low high = go (settled (get_or ts k d)) refl
+        where
+          go : (b : Bool) → settled (get_or ts k d) ≡ b → b ≡ false
+          go false e = refl
+          go true e = let is = b.alone d (b.later mark k d (omega (arith, low)) high e) in absurd (omega (arith, is, low, high))
 
-      go : (list_any (λ v. not (up_to (delayed x v) mark) && int_lt (delayed l v).time until) vs ≡ true → list_all (λ v. up_to (delayed y v) mark || int_le until (delayed y v).time) vs ≡ false)
-          → (a b : Bool) → up_to (delayed x v) mark ≡ a → int_lt (delayed l v).time until ≡ b → list_all (λ v. up_to (delayed y v) mark || int_le until (delayed y v).time) (v ∷ vs) ≡ false
-      go more false true e f = (λ i. (not_up (delayed x v) (delayed y v) (delayed_keeps x y v h) mark e i || never_or (delayed y v) (in_time_before (Some until) (delayed y v) (delayed l v) (delayed_keeps y l v k) f) i) && list_all (λ v. up_to (delayed y v) mark || int_le until (delayed y v).time) vs)
-      go more false false e f = fails (up_to (delayed y v) mark || int_le until (delayed y v).time) (more (sym (λ i. (not (e i) && f i) || list_any (λ v. not (up_to (delayed x v) mark) && int_lt (delayed l v).time until) vs) ∙ held))
-      go more true b e f = fails (up_to (delayed y v) mark || int_le until (delayed y v).time) (more (sym (ap (λ (c : Bool). (not c && int_lt (delayed l v).time until) || list_any (λ v. not (up_to (delayed x v) mark) && int_lt (delayed l v).time until) vs) e) ∙ held))
-
-  and_false : (b : Bool) → b && false ≡ false
-  and_false true = refl
-  and_false false = refl
+      none : filter settled (take q ts) ≡ filter settled (take (p + 1) ts)
+      none = none_between settled ts (p + 1) q (omega (arith, b.more)) between
 
   few_end : (ts : List Timed) (p : ℕ) (d : Timed) → p < length ts → IsWalked ts p → filter settled ts ≡ filter settled (take (p + 1) ts) → IsFew vias until mark ts
   few_end ts p d there w none = rw (none, next_count ts p d there) (go (settled (get_or ts p d)) refl)
@@ -238,92 +296,26 @@ module _ (vias : List Via) (until : ℤ) (mark : Tier) where
       go true h = omega (arith, w.few d there, alive_some vias until mark (get_or ts p d).at (both_hold (up_to (get_or ts p d).at mark) (list_all (λ v. up_to (delayed (get_or ts p d).at v) mark || int_le until (delayed (get_or ts p d).at v).time) vias) h).0)
       go false h = omega (arith, w.few d there)
 
-  pub walked_rest : (ts : List Timed) (p : ℕ) → IsAscending ts → IsWalked ts p → IsRest vias until mark ts p → IsFew vias until mark ts
-  walked_rest [] p up w rest = omega arith
-  walked_rest (t ∷ ts) p up w rest = by (up_to (get_or (t ∷ ts) (p + 1) t).at mark) refl (is_held_up vias until mark (get_or (t ∷ ts) p t).at (get_or (t ∷ ts) (length (t ∷ ts) - 1) t).at) refl
-    where
-      there : p < length (t ∷ ts)
-      there = w.inside (omega arith)
+  pub walked_rest : (ts : List Timed) (p : ℕ) → IsAscending ts → IsWalked ts p → IsRest mark ts p → IsFew vias until mark ts
+  walked_rest ts p up w rest = elim (low_or p (length ts)) [
+    | inr h ↦ w.all h
+    | inl there ↦ few_end ts p anything there w (none_after settled ts (p + 1) (λ k d low below. not_made (get_or ts k d).at
+        (not_up (get_or ts (p + 1) d).at (get_or ts k d).at (ascending_at ts (p + 1) k d up low below) mark (rest d (omega (arith, low, below))))))
+  ]
 
-      by : (a : Bool) → up_to (get_or (t ∷ ts) (p + 1) t).at mark ≡ a → (b : Bool) → is_held_up vias until mark (get_or (t ∷ ts) p t).at (get_or (t ∷ ts) (length (t ∷ ts) - 1) t).at ≡ b → IsFew vias until mark (t ∷ ts)
-      by a e true f =
-          let none : filter settled (t ∷ ts) ≡ filter settled (take p (t ∷ ts)) = none_after settled (t ∷ ts) p (λ k d low below.
-          ap (λ (b : Bool). up_to (get_or (t ∷ ts) k d).at mark && b) (subst (λ (u : Timed). list_all (λ v. up_to (delayed u.at v) mark || int_le until (delayed u.at v).time) vias ≡ false) (get_or_any (t ∷ ts) k t d below)
-          (held_later vias (get_or (t ∷ ts) p t).at (get_or (t ∷ ts) k t).at (get_or (t ∷ ts) (length (t ∷ ts) - 1) t).at (ascending_at (t ∷ ts) p k t up low below) (ascending_at (t ∷ ts) k (length (t ∷ ts) - 1) t up (omega (arith, below)) (omega arith)) f))
-          ∙ and_false (up_to (get_or (t ∷ ts) k d).at mark)) in
-          rw none (omega (arith, w.few t there))
-      by false e false f = few_end (t ∷ ts) p t there w (none_after settled (t ∷ ts) (p + 1) (λ k d low below. not_made (get_or (t ∷ ts) k d).at
-          (subst (λ (u : Timed). up_to u.at mark ≡ false) (get_or_any (t ∷ ts) k t d below) (not_up (get_or (t ∷ ts) (p + 1) t).at (get_or (t ∷ ts) k t).at (ascending_at (t ∷ ts) (p + 1) k t up low below) mark e))))
-      by true e false f = few_end (t ∷ ts) p t there w (none_after settled (t ∷ ts) (p + 1) (λ k d low below.
-          absurd (true≢false (sym (λ i. e i && not (f i)) ∙ rest t (omega (arith, low, below))))))
+  -- ---- until which mark no more may be given up
 
--- ---- until which mark no more may be given up
+  -- of those before the place none more is settled before outputs are looked at again
+  abbrev pub Stays : Option Tier → List Timed → ℕ → Type 0
+  Stays next ts p = (m : Tier) (k : ℕ) (d : Timed) → is_due next m ≡ false → k < p → is_settled vias until m (get_or ts k d).at ≡ true → is_settled vias until mark (get_or ts k d).at ≡ true
 
-module _ (vias : List Via) (until : ℤ) (mark m : Tier) (from : IsUpTo mark m) where
-  past_settled : (vs : List Via) (x : Tier) → list_all (λ v. up_to (delayed x v) mark) vs ≡ true → list_all (λ v. up_to (delayed x v) mark || int_le until (delayed x v).time) vs ≡ true
-  past_settled [] x h = refl
-  past_settled (v ∷ vs) x h = let p = both_hold (up_to (delayed x v) mark) (list_all (λ v. up_to (delayed x v) mark) vs) h in
-      and_holds (up_to (delayed x v) mark || int_le until (delayed x v).time) (list_all (λ v. up_to (delayed x v) mark || int_le until (delayed x v).time) vs) (ap (λ (b : Bool). b || int_le until (delayed x v).time) p.0) (past_settled vs x p.1)
-
-  settled_past : (x : Tier) → is_past vias mark x ≡ true → is_settled vias until mark x ≡ true
-  settled_past x h = let p = both_hold (up_to x mark) (list_all (λ v. up_to (delayed x v) mark) vias) h in
-      and_holds (up_to x mark) (list_all (λ v. up_to (delayed x v) mark || int_le until (delayed x v).time) vias) p.0 (past_settled vias x p.1)
-
-  -- what doesn't come by the mark leaves what was made later unsettled, while that comes before the
-  -- run's end
-  late_later : (vs : List Via) (x y : Tier) → IsUpTo x y → list_all (λ v. int_lt (delayed y v).time until) vs ≡ true → list_all (λ v. up_to (delayed x v) m) vs ≡ false → list_all (λ v. up_to (delayed y v) m || int_le until (delayed y v).time) vs ≡ false
-  late_later [] x y h ends late = absurd (true≢false late)
-  late_later (v ∷ vs) x y h ends late = go (λ r. late_later vs x y h in_time.1 r) (up_to (delayed x v) m) refl
-    where
-      in_time : (int_lt (delayed y v).time until ≡ true) × (list_all (λ v. int_lt (delayed y v).time until) vs ≡ true)
-      in_time = both_hold (int_lt (delayed y v).time until) (list_all (λ v. int_lt (delayed y v).time until) vs) ends
-
-      go : (list_all (λ v. up_to (delayed x v) m) vs ≡ false → list_all (λ v. up_to (delayed y v) m || int_le until (delayed y v).time) vs ≡ false)
-          → (a : Bool) → up_to (delayed x v) m ≡ a → list_all (λ v. up_to (delayed y v) m || int_le until (delayed y v).time) (v ∷ vs) ≡ false
-      go more true e = ap (λ (b : Bool). (up_to (delayed y v) m || int_le until (delayed y v).time) && b) (more (sym (ap (λ (b : Bool). b && list_all (λ v. up_to (delayed x v) m) vs) e) ∙ late))
-          ∙ and_false vias until mark (up_to (delayed y v) m || int_le until (delayed y v).time)
-      go more false e = λ i. (not_up vias until mark (delayed x v) (delayed y v) (delayed_keeps x y v h) m e i || never_or vias until mark (delayed y v) in_time.0 i) && list_all (λ v. up_to (delayed y v) m || int_le until (delayed y v).time) vs
-
-  late_settled : (x y : Tier) → IsUpTo x y → list_all (λ v. int_lt (delayed y v).time until) vias ≡ true → is_past vias m x ≡ false → is_settled vias until m y ≡ false
-  late_settled x y h ends late = go (up_to x m) refl
-    where
-      go : (a : Bool) → up_to x m ≡ a → is_settled vias until m y ≡ false
-      go true e = ap (λ (b : Bool). up_to y m && b) (late_later vias x y h ends (sym (ap (λ (b : Bool). b && list_all (λ v. up_to (delayed x v) m) vias) e) ∙ late)) ∙ and_false vias until mark (up_to y m)
-      go false e = not_made vias until m y (not_up vias until mark x y h m e)
-
-  all_in_time : (vs : List Via) (x y : Tier) → IsUpTo x y → list_all (λ v. int_lt (delayed y v).time until) vs ≡ true → list_all (λ v. int_lt (delayed x v).time until) vs ≡ true
-  all_in_time [] x y h ends = refl
-  all_in_time (v ∷ vs) x y h ends = let p = both_hold (int_lt (delayed y v).time until) (list_all (λ v. int_lt (delayed y v).time until) vs) ends in
-      and_holds (int_lt (delayed x v).time until) (list_all (λ v. int_lt (delayed x v).time until) vs) (in_time_before (Some until) (delayed x v) (delayed y v) (delayed_keeps x y v h) p.0) (all_in_time vs x y h p.1)
-
-  few_stays : (ts : List Timed) → ((k : ℕ) (d : Timed) → k < length ts → is_settled vias until m (get_or ts k d).at ≡ true → is_settled vias until mark (get_or ts k d).at ≡ true) → IsFew vias until mark ts → IsFew vias until m ts
-  few_stays ts h few = omega (
+  few_stays : (m : Tier) (ts : List Timed) → ((k : ℕ) (d : Timed) → k < length ts → is_settled vias until m (get_or ts k d).at ≡ true → is_settled vias until mark (get_or ts k d).at ≡ true) → IsFew vias until mark ts → IsFew vias until m ts
+  few_stays m ts h few = omega (
     arith,
     few,
     implied (λ t. is_settled vias until m t.at) (λ t. is_settled vias until mark t.at) ts
         (λ t here s. let i = in_at t ts here in let g = get_is ts i.0 t i.1 in subst (λ (u : Timed). is_settled vias until mark u.at ≡ true) g.1 (h i.0 t g.0 (subst (λ (u : Timed). is_settled vias until m u.at ≡ true) (sym g.1) s))),
   )
 
-  -- the first that has not come hasn't come by then
-  pub stays_first : (ts : List Timed) (n l : ℕ) (at : Tier) (e f : Timed) → IsAscending ts → IsFirstToCome vias mark ts n → n < length ts → l + 1 ≡ length ts → e ≡ get_or ts n e → f ≡ get_or ts l f → list_all (λ v. int_lt (delayed f.at v).time until) vias ≡ true
-      → (is_past vias m e.at ≡ true → IsUpTo at m) → up_to at m ≡ false → IsFew vias until mark ts → IsFew vias until m ts
-  stays_first ts n l at e f up first there last is end ends comes later few = few_stays ts (λ k d below s. go k d below s (low_or k)) few
-    where
-      low_or : (k : ℕ) → (k < n) ⊎ (n ≤ k)
-      low_or k = grind arith
-
-      late : is_past vias m e.at ≡ false
-      late = by (is_past vias m e.at) refl
-        where
-          by : (b : Bool) → is_past vias m e.at ≡ b → b ≡ false
-          by true q = absurd (true≢false (sym (comes q) ∙ later))
-          by false q = refl
-
-      go : (k : ℕ) (d : Timed) → k < length ts → is_settled vias until m (get_or ts k d).at ≡ true → (k < n) ⊎ (n ≤ k) → is_settled vias until mark (get_or ts k d).at ≡ true
-      go k d below s (inl low) = settled_past (get_or ts k d).at (first.before k d low)
-      go k d below s (inr high) = absurd (true≢false (sym s ∙ late_settled e.at (get_or ts k d).at
-          (subst (λ (u : Timed). IsUpTo u.at (get_or ts k d).at) (get_or_any ts n d e there ∙ sym is) (ascending_at ts n k d up high below))
-          (all_in_time vias (get_or ts k d).at f.at (subst (λ (u : Timed). IsUpTo (get_or ts k d).at u.at) (get_or_any ts l d f (omega (arith, last)) ∙ sym end) (ascending_at ts k l d up (omega (arith, below, last)) (omega (arith, last)))) ends) late))
-
-  pub stays_all : (ts : List Timed) (n : ℕ) → IsFirstToCome vias mark ts n → length ts ≤ n → IsFew vias until mark ts → IsFew vias until m ts
-  stays_all ts n first all few = few_stays ts (λ k d below s. settled_past (get_or ts k d).at (first.before k d (omega (arith, below, all)))) few
+  pub stays_all : (next : Option Tier) (ts : List Timed) (p : ℕ) → length ts ≤ p → Stays next ts p → IsFew vias until mark ts → StaysFew vias until mark next ts
+  stays_all next ts p all stays few m from due = few_stays m ts (λ k d below s. stays m k d due (omega (arith, below, all)) s) few

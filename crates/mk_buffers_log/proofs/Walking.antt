@@ -8,9 +8,6 @@ module _ {X : Type 0} (f : X → Bool) (xs : List X) where
   pub all_end : (n : ℕ) → length xs ≤ n → list_all f (take n xs) ≡ true → true ≡ list_all f xs
   all_end n all so = sym (ap (list_all f) (sym (take_all n xs all)) ∙ so)
 
-  pub any_end : (n : ℕ) → length xs ≤ n → list_any f (take n xs) ≡ false → false ≡ list_any f xs
-  any_end n all so = sym (ap (list_any f) (sym (take_all n xs all)) ∙ so)
-
   module _ (i : ℕ) (x : X) (b : Bool) (low : i < length xs) (is : x ≡ get_or xs i x) (here : b ≡ f x) where
     pub all_more : b ≡ true → list_all f (take i xs) ≡ true → list_all f (take (i + 1) xs) ≡ true
     all_more it so = list_all_more f xs i x low ∙ ap (λ (c : Bool). c && f (get_or xs i x)) so ∙ sym (ap f is) ∙ sym here ∙ it

@@ -1,11 +1,11 @@
 //! The delays of connections: when what is made at a time comes, and which questions it can answer.
-ghost use Rattle.std.specs.Prelude.{◌≡◌, ◌≤◌, ◌&&◌, ◌||◌, not, true, pos, Some, int_le, int_lt, ◌≤ℤ◌};
+ghost use Rattle.std.specs.Prelude.{◌≡◌, ◌≤◌, ◌&&◌, ◌||◌, true, pos, Some, int_le, int_lt, ◌≤ℤ◌};
 ghost use Rattle.std.specs.List.{list_all};
 ghost use Rattle.mk_base.specs.declared.tier.Tier.{Tier};
 ghost use Rattle.mk_base.specs.Tiers.{delayed, up_to, HasWidth, IsUpTo, latest_time};
 ghost use Rattle.mk_plan.specs.Inputs.{is_since};
 ghost use Rattle.mk_buffers_log.specs.Logs.{is_in_time, is_settled};
-ghost use Rattle.mk_buffers_log.specs.inner.Logs.{does_come, is_held_up, is_overtaken, is_past};
+ghost use Rattle.mk_buffers_log.specs.inner.Logs.{comes_with, does_come, is_overtaken};
 ghost use Rattle.mk_base.specs.Limits.{greatest_tier};
 
 use mk_base::{Tier, Via};
@@ -78,45 +78,6 @@ pub fn is_since(previous: Option<Tier>, arrival: Tier) -> bool
         Some(step) => !arrival.is_up_to(step),
         None => true,
     }
-}
-
-/// What is made at a time has come by the mark, on its own and by each of these delays.
-pub fn is_past(made: Tier, vias: &[Delay], mark: Tier) -> bool
-    requires early { pos 0 ≤ℤ made.time }
-    requires late { made.time ≤ℤ latest_time }
-    requires low { made.tier ≤ greatest_tier }
-    ensures { result ≡ is_past vias.now mark made }
-{
-    if made.is_up_to(mark) {
-        has_come(made, vias, mark)
-    } else {
-        false
-    }
-}
-
-// What is made at a time has come by the mark by each of these delays.
-fn has_come(made: Tier, vias: &[Delay], mark: Tier) -> bool
-    requires early { pos 0 ≤ℤ made.time }
-    requires late { made.time ≤ℤ latest_time }
-    requires low { made.tier ≤ greatest_tier }
-    ensures { result ≡ list_all (λ v. up_to (delayed made v) mark) vias.now }
-{
-    for via in vias {
-        if !comes_by(made, *via, mark) {
-            return false;
-        }
-    }
-    true
-}
-
-// What is made at a time has come by the mark by this delay.
-fn comes_by(made: Tier, via: Delay, mark: Tier) -> bool
-    requires early { pos 0 ≤ℤ made.time }
-    requires late { made.time ≤ℤ latest_time }
-    requires low { made.tier ≤ greatest_tier }
-    ensures { result ≡ up_to (delayed made via) mark }
-{
-    made.after(via.via()).is_up_to(mark)
 }
 
 /// Neither the making nor, by any of these delays, the delivery before the run's end of what is made at a time is later
@@ -212,77 +173,66 @@ fn replaces_by(first: Tier, second: Tier, via: Delay, until: i64, mark: Tier) ->
     is_delivered(second, via, Some(until), mark) || until <= first.after(via.via()).time
 }
 
-/// By one of these delays what is made first comes after the mark, while what is made last still comes before the run's
-/// end.
-pub fn is_held_up(first: Tier, last: Tier, vias: &[Delay], until: i64, mark: Tier) -> bool
+/// By each of these delays by which what is made first comes before the run's end, what is made second does too.
+pub fn comes_with(first: Tier, second: Tier, vias: &[Delay], until: i64) -> bool
     requires early { pos 0 ≤ℤ first.time }
     requires late { first.time ≤ℤ latest_time }
     requires low { first.tier ≤ greatest_tier }
-    requires last_early { pos 0 ≤ℤ last.time }
-    requires last_late { last.time ≤ℤ latest_time }
-    requires last_low { last.tier ≤ greatest_tier }
-    ensures { result ≡ is_held_up vias.now until mark first last }
+    requires second_early { pos 0 ≤ℤ second.time }
+    requires second_late { second.time ≤ℤ latest_time }
+    requires second_low { second.tier ≤ greatest_tier }
+    ensures { result ≡ comes_with vias.now until first second }
 {
     for via in vias {
-        if is_held_up_by(first, last, *via, until, mark) {
-            return true;
-        }
-    }
-    false
-}
-
-// By this delay what is made first comes after the mark, while what is made last still comes before the run's end.
-fn is_held_up_by(first: Tier, last: Tier, via: Delay, until: i64, mark: Tier) -> bool
-    requires early { pos 0 ≤ℤ first.time }
-    requires late { first.time ≤ℤ latest_time }
-    requires low { first.tier ≤ greatest_tier }
-    requires last_early { pos 0 ≤ℤ last.time }
-    requires last_late { last.time ≤ℤ latest_time }
-    requires last_low { last.tier ≤ greatest_tier }
-    ensures { result ≡ (not (up_to (delayed first via) mark)
-        && int_lt (delayed last via).time until) }
-{
-    !first.after(via.via()).is_up_to(mark) && last.after(via.via()).time < until
-}
-
-/// By each of these delays what is made at a time comes before the run's end.
-pub fn is_all_in_time(made: Tier, vias: &[Delay], until: i64) -> bool
-    requires early { pos 0 ≤ℤ made.time }
-    requires late { made.time ≤ℤ latest_time }
-    requires low { made.tier ≤ greatest_tier }
-    ensures { result ≡ list_all (λ v. int_lt (delayed made v).time until) vias.now }
-{
-    for via in vias {
-        if !comes_in_time(made, *via, until) {
+        if !comes_with_by(first, second, *via, until) {
             return false;
         }
     }
     true
 }
 
-// By this delay what is made at a time comes before the run's end.
-fn comes_in_time(made: Tier, via: Delay, until: i64) -> bool
-    requires early { pos 0 ≤ℤ made.time }
-    requires late { made.time ≤ℤ latest_time }
-    requires low { made.tier ≤ greatest_tier }
-    ensures { result ≡ int_lt (delayed made via).time until }
+// By this delay what is made first never comes before the run's end, or what is made second does too.
+fn comes_with_by(first: Tier, second: Tier, via: Delay, until: i64) -> bool
+    requires early { pos 0 ≤ℤ first.time }
+    requires late { first.time ≤ℤ latest_time }
+    requires low { first.tier ≤ greatest_tier }
+    requires second_early { pos 0 ≤ℤ second.time }
+    requires second_late { second.time ≤ℤ latest_time }
+    requires second_low { second.tier ≤ greatest_tier }
+    ensures { result ≡ (int_le until (delayed first via).time
+        || int_lt (delayed second via).time until) }
 {
-    made.after(via.via()).time < until
+    until <= first.after(via.via()).time || second.after(via.via()).time < until
 }
 
-/// A time that is no later than any mark by which what is made at a time has come, on its own and by each of these
-/// delays.
-pub fn arrived(made: Tier, vias: &[Delay]) -> Tier
+/// A time that is no later than any mark at which what is made at a time is settled.
+pub fn settling(made: Tier, vias: &[Delay], until: i64) -> Tier
     requires early { pos 0 ≤ℤ made.time }
     requires late { made.time ≤ℤ latest_time }
     requires low { made.tier ≤ greatest_tier }
-    ensures { (m : Tier) → is_past vias.now m made ≡ true → IsUpTo result m }
+    ensures { (m : Tier) → is_settled vias.now until m made ≡ true → IsUpTo result m }
 {
     let mut last = made;
     for via in vias {
-        last = later_of(last, made.after(via.via()));
+        last = settling_by(last, made, *via, until);
     }
     last
+}
+
+// The later of a time and the one at which what is made comes by this delay, if that is before the run's end.
+fn settling_by(last: Tier, made: Tier, via: Delay, until: i64) -> Tier
+    requires early { pos 0 ≤ℤ made.time }
+    requires late { made.time ≤ℤ latest_time }
+    requires low { made.tier ≤ greatest_tier }
+    ensures { (m : Tier) → IsUpTo last m → up_to (delayed made via) m
+        || int_le until (delayed made via).time ≡ true → IsUpTo result m }
+{
+    let arrival = made.after(via.via());
+    if is_in_time(arrival, Some(until)) {
+        later_of(last, arrival)
+    } else {
+        last
+    }
 }
 
 // The later of two times: it is up to every time up to which both are.

@@ -8,13 +8,11 @@ ghost use Rattle.mk_base.specs.Tiers.{up_to, latest_time};
 ghost use Rattle.mk_base.specs.declared.tier.Via.{Via};
 ghost use Rattle.mk_plan.specs.Deliveries.{Timed};
 ghost use Rattle.mk_plan.specs.Inputs.{later, latest};
-ghost use Rattle.mk_buffers_log.specs.Logs.{AnswersFrom, IsAmong, IsFew, StaysFew, arrival, arrivals, by, is_settled};
-ghost use Rattle.mk_buffers_log.specs.inner.Logs.{IsAscending, IsEarlierAt, IsFirstToCome, IsNeeded, IsNewestAt, IsNewestByOf, IsOutdoneAt, IsRest, IsSpare, is_outdone, is_overtaken, PlacedFor, Takes, does_come, is_past, weighed};
+ghost use Rattle.mk_buffers_log.specs.Logs.{AnswersFrom, IsAmong, IsFew, StaysFew, arrival, arrivals, by, is_due, is_settled};
+ghost use Rattle.mk_buffers_log.specs.inner.Logs.{IsAscending, IsBehind, IsEarlierAt, IsNeeded, IsNewestAt, IsNewestByOf, IsOutdoneAt, IsRest, IsSpare, comes_with, is_outdone, is_overtaken, PlacedFor, Takes, does_come, weighed};
 ghost use Rattle.mk_base.specs.Limits.{greatest_tier};
 
-use crate::delays::{
-    Delay, arrived, is_all_in_time, is_delivered, is_held_up, is_overtaken, is_past, is_settled,
-};
+use crate::delays::{Delay, comes_with, is_delivered, is_overtaken, is_settled, settling};
 use crate::made::Made;
 use mk_base::{Mem, Tier, Via};
 use std::alloc::Global;
@@ -316,7 +314,8 @@ fn later<'a>(best: Option<&'a Made>, next: &'a Made, via: Delay) -> Option<&'a M
     }
 }
 
-// Drops each entry whose next one overtakes it.
+// Drops each entry whose next one overtakes it. Of those that come over the same delays before the run's end the settled
+// ones stand first: at one that isn't, the walk goes on behind all of them.
 fn forget_rising(entries: &mut VecDeque<Made>, vias: &[Delay], until: &i64, mark: Tier)
     requires { IsAscending entries.old.items }
     ensures answers { AnswersFrom vias.now until.now mark entries.new.items entries.old.items }
@@ -325,11 +324,11 @@ fn forget_rising(entries: &mut VecDeque<Made>, vias: &[Delay], until: &i64, mark
     ensures rising { IsAscending entries.new.items }
 {
     let mut place = 0;
-    while goes_on(entries, place, vias, until, mark) {
+    while goes_on(entries, place, mark) {
         if is_overtaken_at(entries, place, vias, until, mark) {
             drop_at(entries, place);
         } else {
-            place += 1;
+            place = behind(entries, place, vias, until, mark);
         }
     }
 }
@@ -355,58 +354,93 @@ fn is_overtaken_at(
     )
 }
 
-// The entry at the place may be overtaken by its next one, or one behind it by its own.
-fn goes_on(entries: &VecDeque<Made>, place: usize, vias: &[Delay], until: &i64, mark: Tier) -> bool
+// There is an entry behind the one at the place, and it is made by the mark.
+fn goes_on(entries: &VecDeque<Made>, place: usize, mark: Tier) -> bool
     requires { place ≤ length entries.now.items }
     ensures next { result ≡ true → place + 1 < length entries.now.items }
-    ensures rest { result ≡ false → IsRest vias.now until.now mark entries.now.items place }
+    ensures rest { result ≡ false → IsRest mark entries.now.items place }
 {
-    match entries.back() {
-        Some(last) if place + 1 < entries.len() => {
-            entries[place + 1].at().is_up_to(mark)
-                && !is_held_up(entries[place].at(), last.at(), vias, *until, mark)
-        }
-        _ => false,
+    if place + 1 < entries.len() {
+        entries[place + 1].at().is_up_to(mark)
+    } else {
+        false
     }
 }
 
-// The mark at which rising entries have to be looked at again, if there is one.
+// The place behind a settled entry; behind another, the one behind all that come over the same delays.
+fn behind(entries: &VecDeque<Made>, place: usize, vias: &[Delay], until: &i64, mark: Tier) -> usize
+    requires up { IsAscending entries.now.items }
+    requires there { place < length entries.now.items }
+    ensures { IsBehind vias.now until.now mark entries.now.items place result }
+{
+    if is_settled_at(entries, place, vias, until, mark) {
+        place + 1
+    } else {
+        coming_with(entries, &entries[place], vias, *until)
+    }
+}
+
+// How many of rising entries come before the run's end by each of these delays by which this one does.
+fn coming_with(entries: &VecDeque<Made>, made: &Made, vias: &[Delay], until: i64) -> usize
+    requires { IsAscending entries.now.items }
+    ensures within { result ≤ length entries.now.items }
+    ensures cut { IsPartitionPoint (λ t. comes_with vias.now until made.now.at t.at
+        ≡ true) (λ t. comes_with vias.now until made.now.at t.at
+        ≡ false) entries.now.items result }
+{
+    let at = made.at();
+    match entries.back() {
+        Some(last) if comes_with(at, last.at(), vias, until) => entries.len(),
+        _ => entries.partition_point(|entry| comes_with(made.at(), entry.at(), vias, until)),
+    }
+}
+
+// The mark at which rising entries have to be looked at again, if there is one: the least at which one more is settled.
 fn next_rising(entries: &VecDeque<Made>, vias: &[Delay], until: &i64, mark: Tier) -> Option<Tier>
     requires { IsAscending entries.now.items }
     ensures { IsFew vias.now until.now mark entries.now.items
         → StaysFew vias.now until.now mark result entries.now.items }
 {
-    let place = first_to_come(entries, vias, mark);
-    if place < entries.len() {
-        let last = entries.len() - 1;
-        if is_all_in_time(entries[last].at(), vias, *until) {
-            Some(arrived(entries[place].at(), vias))
-        } else {
-            Some(mark)
-        }
-    } else {
-        None
+    let mut next = None;
+    let mut place = 0;
+    while place < entries.len() {
+        next = sooner_at(next, entries, place, vias, until, mark);
+        place = behind(entries, place, vias, until, mark);
     }
+    next
 }
 
-// How many entries before the first that has not come by the mark, on its own and by each of these delays.
-fn first_to_come(entries: &VecDeque<Made>, vias: &[Delay], mark: Tier) -> usize
-    ensures { IsFirstToCome vias.now mark entries.now.items result }
-{
-    for place in 0..entries.len() {
-        if !is_past_at(entries, place, vias, mark) {
-            return place;
-        }
-    }
-    entries.len()
-}
-
-// The entry at the place has come by the mark, on its own and by each of these delays.
-fn is_past_at(entries: &VecDeque<Made>, place: usize, vias: &[Delay], mark: Tier) -> bool
+// The earlier of a mark and the one at which the entry at the place is settled, if it isn't yet.
+fn sooner_at(
+    next: Option<Tier>,
+    entries: &VecDeque<Made>,
+    place: usize,
+    vias: &[Delay],
+    until: &i64,
+    mark: Tier,
+) -> Option<Tier>
     requires { place < length entries.now.items }
-    ensures { (d : Timed) → result ≡ is_past vias.now mark (get_or entries.now.items place d).at }
+    ensures before { (m : Tier) → is_due result m ≡ false → is_due next m ≡ false }
+    ensures settled { (m : Tier) → (d : Timed) → is_due result m ≡ false
+        → is_settled vias.now until.now m (get_or entries.now.items place d).at ≡ true
+        → is_settled vias.now until.now mark (get_or entries.now.items place d).at ≡ true }
 {
-    is_past(entries[place].at(), vias, mark)
+    if is_settled_at(entries, place, vias, until, mark) {
+        next
+    } else {
+        Some(sooner(next, settling(entries[place].at(), vias, *until)))
+    }
+}
+
+// The earlier of two times, the first of which may be missing.
+fn sooner(first: Option<Tier>, second: Tier) -> Tier
+    ensures before { (m : Tier) → up_to result m ≡ false → is_due first m ≡ false }
+    ensures settled { (m : Tier) → up_to result m ≡ false → up_to second m ≡ false }
+{
+    match first {
+        Some(time) if time.is_up_to(second) => time,
+        _ => second,
+    }
 }
 
 // Drops each entry that is settled and is the newest one for no question at the mark; the entries are in any order.

@@ -1,16 +1,15 @@
 -- Links that are kept by cursors.
-use Rattle.std.proofs.Common.{◌≡◌, ℕ, zero, suc, ◌+◌, ◌-◌, ◌<◌, ◌≤◌, Bool, true, false, cond, if◌then◌else◌, nat_lt, ◌^◌, min, option_and_then, List, [], ◌∷◌, ◌++◌, length, drop, get_or, refl, sym, ap, ◌∙◌, arith, Some, None, option_map, slice_get, slice_set}
+use Rattle.std.proofs.Common.{◌≡◌, ℕ, zero, suc, ◌+◌, ◌-◌, ◌<◌, ◌≤◌, Bool, false, if◌then◌else◌, ◌^◌, min, option_and_then, List, [], ◌∷◌, ◌++◌, length, drop, get_or, refl, sym, ap, ◌∙◌, arith, Some, None, option_map, slice_get, slice_set}
 use Rattle.std.proofs.Common.{length-append, subst}
-use Rattle.std.proofs.lemmas.List.{drop_more, drop-drop, length-drop, length-set}
+use Rattle.std.proofs.lemmas.List.{length-set}
 use Rattle.std.proofs.lemmas.Bool.{le-ltb, lt-ltb}
 use Rattle.std.proofs.lemmas.Option.{slice_get_past, slice_get_read}
 use Rattle.mk_base.specs.declared.LinkNo.{LinkNo}
-use Rattle.mk_base.specs.Links.{same_link}
 use Rattle.mk_outside.specs.declared.fleet.Started.TheVariants as started
 use Rattle.mk_fakes.specs.declared.wires.Chunk.{Chunk}
 use Rattle.mk_fakes.specs.declared.wires.Cursor.{Cursor}
 use Rattle.mk_fakes.specs.inner.Cursors.{cut, line_of, lines_from}
-use Rattle.mk_fakes.specs.Scripts.{after_start, changed_at, chunks_of, coming, given, heard, on_line, past, said_more, said_to, without_front}
+use Rattle.mk_fakes.specs.Scripts.{after_start, changed_at, chunks_of, coming, given, on_line, past, said_more, said_to, without_front}
 use Rattle.mk_fakes.specs.Telling.{Line, Wiring}
 
 -- the link at a place

@@ -1,28 +1,20 @@
 -- There always is a least end of walks: simulators are let in one by one, and none lets a walk end
 -- sooner by coming back to it.
-use Rattle.std.proofs.Common.{◌≡◌, ℕ, zero, suc, ◌<◌, ◌≤◌, ℤ, ◌≤ℤ◌, Bool, true, false, List, [], ◌++◌, length, filter, flat_map, Option, Some, None, option_map, refl, sym, ap, ◌∙◌, subst, ◌⊎◌, inl, inr, true≢false, arith, ◌==◌, if◌then◌else◌}
-use Rattle.std.specs.Prelude.{MatchOption, option_to_list}
-use Rattle.std.proofs.lemmas.Bool.{eqb-true, eq-eqb, cases_lt}
-use Rattle.std.proofs.lemmas.Int.{ints}
+use Rattle.std.proofs.Common.{◌≡◌, ℕ, zero, suc, ◌≤◌, Bool, true, false, List, [], ◌++◌, flat_map, Option, Some, None, option_map, refl, sym, ap, ◌∙◌, subst, ◌⊎◌, inl, inr, true≢false, arith, ◌==◌, if◌then◌else◌}
+use Rattle.std.specs.Prelude.{option_to_list}
+use Rattle.std.proofs.lemmas.Bool.{eqb-true, eq-eqb}
 use Rattle.mk_base.specs.declared.tier.Tier.{Tier}
 use Rattle.mk_base.specs.declared.tier.Via.{Via}
 use Rattle.mk_base.specs.Lists.{IsIn}
 use Rattle.mk_base.specs.Tiers.{delayed, HasWidth, IsUpTo}
-use Rattle.mk_base.proofs.Lists.{some_same, none_some, in_map, in_filter, in_flat_map, flat_map_in, in_either, in_front, in_back, all_in}
-use Rattle.mk_base.proofs.TierOrder.{is_up_to, up_to_trans, delayed_keeps, delayed_no_earlier}
+use Rattle.mk_base.proofs.Lists.{none_some, in_flat_map, flat_map_in, in_either, in_front, in_back}
+use Rattle.mk_base.proofs.TierOrder.{up_to_trans, delayed_keeps, delayed_no_earlier}
 use Rattle.mk_plan.specs.declared.Plan.{Plan}
-use Rattle.mk_plan.specs.declared.Conn.{Conn}
-use Rattle.mk_plan.specs.declared.Entry.{Entry}
-use Rattle.mk_plan.specs.Plans.{Link, link_of, trigger_links, sim_count, IsValidPlan}
-use Rattle.mk_plan.specs.Walks.{link, IsEdge, Reach, from_start, along, nobody, IsEarliest}
-use Rattle.mk_plan.specs.Journals.{view}
-use Rattle.mk_plan.specs.Ready.{least, start, IsReady}
-use Rattle.mk_plan.specs.Advance.{IsOuter, IsAdvance}
-use Rattle.mk_plan.specs.Orderly.{IsOrderlySoFar}
+use Rattle.mk_plan.specs.Plans.{Link, trigger_links}
+use Rattle.mk_plan.specs.Walks.{link, IsEdge, Reach, from_start, along}
+use Rattle.mk_plan.specs.Ready.{least}
 use Rattle.mk_order.proofs.Reasons.{least_is, is_least}
 use Rattle.mk_order.proofs.Exact.{IsBoundBy, bounded}
-use Rattle.mk_order.proofs.EntityNames.{owner_is_below}
-use Rattle.mk_order.proofs.Tables.{start_beyond, IsOuterTime}
 
 -- those that a walk may not touch: those of a set, and all from k on
 abbrev pub Barred : (ℕ → Bool) → ℕ → ℕ → Type 0

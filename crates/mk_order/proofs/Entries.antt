@@ -1,11 +1,11 @@
 -- What each kind of entry does to acts, last Steps, starts and the supply.
-use Rattle.std.proofs.Common.{◌≡◌, ℕ, ℤ, true, false, List, [], ◌∷◌, ◌++◌, Option, Some, None, option_map, refl, sym, ap, ◌∙◌, subst, ◌⊎◌, inl, inr, true≢false, int_lt, ◌==◌, ◌&&◌, ◌<◌, nat_le, if◌then◌else◌}
+use Rattle.std.proofs.Common.{◌≡◌, ℕ, ℤ, true, false, List, [], ◌∷◌, ◌++◌, Option, Some, None, option_map, refl, sym, ap, ◌∙◌, subst, ◌⊎◌, inl, inr, true≢false, int_lt, ◌==◌, ◌<◌, nat_le, if◌then◌else◌}
 use Rattle.std.proofs.lemmas.Bool.{eqb-true, eq-eqb}
 use Rattle.std.proofs.lemmas.List.Sums.{fold-append}
 use Rattle.mk_base.specs.declared.tier.Tier.{Tier}
 use Rattle.mk_base.specs.Lists.{IsIn}
 use Rattle.mk_base.specs.Tiers.{delayed}
-use Rattle.mk_base.proofs.Lists.{in_front, in_back, in_either, in_filter, below_get, filter_map_append, flat_map_append}
+use Rattle.mk_base.proofs.Lists.{in_front, in_back, in_either, below_get, filter_map_append, flat_map_append}
 use Rattle.mk_plan.specs.declared.Plan.{Plan}
 use Rattle.mk_plan.specs.declared.Conn.{Conn}
 use Rattle.mk_plan.specs.declared.Input.{Input}
@@ -13,13 +13,12 @@ use Rattle.mk_plan.specs.declared.Item.{Item}
 use Rattle.mk_plan.specs.declared.Item.TheVariants.{Step}
 use Rattle.mk_plan.specs.declared.Message.{Message}
 use Rattle.mk_plan.specs.declared.Place.{Place}
-use Rattle.mk_plan.specs.declared.Cause.{Cause}
 use Rattle.mk_plan.specs.Plans.{owner, sim_count}
 use Rattle.mk_plan.specs.Acts.{Act, Family, made, output}
 use Rattle.mk_plan.specs.Deliveries.{Timed, supply, outputs_of, gifts_of, triggers, triggering_to}
 use Rattle.mk_plan.specs.Due.{is_in_run, is_due}
 use Rattle.mk_plan.specs.Sequential.{grown, last_time}
-use Rattle.mk_plan.specs.Journals.{OpenTurn, View, with_open, open_after, begun, told_more, note_sent, ended_turn, note_right, note_got}
+use Rattle.mk_plan.specs.Journals.{OpenTurn, View, with_open, open_after, begun, told_more, note_sent, ended_turn, note_right}
 use Rattle.mk_plan.specs.Ready.{pending, start, step_at, last_step, IsReady}
 use Rattle.mk_plan.specs.Report.{is_step}
 use Rattle.mk_order.proofs.Reasons.{IsNextOf, in_triggers, triggers_in, triggers_early, due_why, due_first, due_next, due_triggered}

@@ -1,15 +1,10 @@
 -- A value that is overtaken by another up to a mark is chosen at no time from the mark on.
-use Rattle.std.proofs.Common.{◌≡◌, Bool, true, false, not, ◌&&◌, cond, List, [], ◌∷◌, ◌++◌, filter, fold, Option, Some, None, refl, sym, ap, ◌∙◌, subst, ◌⊎◌, inl, inr, true≢false, if◌then◌else◌}
-use Rattle.std.proofs.lemmas.List.Sums.{fold-append}
-use Rattle.mk_order_any.proofs.Latest.{latest_kept, latest_windowed, if_passes}
-use Rattle.mk_base.specs.declared.tier.Tier.{Tier}
+use Rattle.std.proofs.Common.{◌≡◌, Bool, true, false, List, [], ◌∷◌, fold, Option, Some, refl, sym, ap, ◌∙◌, subst, ◌⊎◌, inl, inr, true≢false, if◌then◌else◌}
 use Rattle.mk_base.specs.Lists.{IsIn}
 use Rattle.mk_base.specs.Tiers.{up_to, IsUpTo, IsBefore}
 use Rattle.mk_base.proofs.TierOrder.{up_to_self, up_to_total, up_to_trans}
 use Rattle.mk_plan.specs.Deliveries.{Timed}
-use Rattle.mk_plan.specs.Inputs.{later, latest, is_since}
-use Rattle.mk_plan.proofs.Latest.{overtaken}
-use Rattle.mk_base.proofs.Lists.{filter_in, filter_append}
+use Rattle.mk_plan.specs.Inputs.{later, latest}
 
 -- the best so far is at or after all
 best_after : (ts : List Timed) (u e : Timed) → IsIn e ts ⊎ IsUpTo e.at u.at → (best : Timed) × (fold later (Some u) ts ≡ Some best) × IsUpTo e.at best.at

@@ -1,33 +1,30 @@
 -- Somebody is ready, a Step's max_advance is a promise, bounds never fall, and two runs agree.
-use Rattle.std.proofs.Common.{◌≡◌, ℕ, ◌<◌, ◌≤◌, ℤ, pos, ◌-ℤ◌, ◌≤ℤ◌, ◌<ℤ◌, true, false, List, [], ◌∷◌, Some, None, option_map, sym, ap, ◌∙◌, subst, ◌⊎◌, inl, inr, arith, true≢false}
-use Rattle.std.proofs.lemmas.Bool.{cases_lt}
+use Rattle.std.proofs.Common.{◌≡◌, ℕ, ◌<◌, ℤ, pos, ◌-ℤ◌, ◌≤ℤ◌, ◌<ℤ◌, true, List, [], ◌∷◌, Some, None, option_map, sym, ap, ◌∙◌, subst, inl, inr, arith, true≢false}
 use Rattle.std.proofs.lemmas.Int.{ints, clamps}
 use Rattle.std.specs.Int.{int_min, int_max}
 use Rattle.mk_order_any.specs.Parts as theory
-use Rattle.mk_order_any.proofs.Progress.{least_is_ready, somebody_least, somebody_ready}
+use Rattle.mk_order_any.proofs.Progress.{somebody_ready}
 use Rattle.mk_order_any.proofs.Promise.{promise_kept}
 use Rattle.mk_order_any.proofs.TwoRuns.{two_runs_agree}
 use Rattle.mk_order_any.proofs.Marks.{bounds_never_fall}
 use Rattle.mk_base.specs.declared.tier.Tier.{Tier}
 use Rattle.mk_base.specs.Lists.{IsIn}
 use Rattle.mk_base.specs.Tiers.{delayed, up_to, IsBefore, IsUpTo}
-use Rattle.mk_base.proofs.TierOrder.{is_up_to, up_to_self, up_to_total, delayed_keeps}
+use Rattle.mk_base.proofs.TierOrder.{is_up_to, up_to_self, delayed_keeps}
 use Rattle.mk_plan.specs.declared.Plan.{Plan}
 use Rattle.mk_plan.specs.declared.Conn.{Conn}
 use Rattle.mk_plan.specs.declared.Entry.{Entry}
-use Rattle.mk_plan.specs.Plans.{sim_count, rank_of, owner, IsValidPlan}
+use Rattle.mk_plan.specs.Plans.{sim_count, owner, IsValidPlan}
 use Rattle.mk_plan.specs.Acts.{Act, Family, made}
 use Rattle.mk_plan.specs.Deliveries.{supply, triggers}
-use Rattle.mk_plan.specs.Sequential.{Messages, sequential, all_ended, run_talk, talk_of, Visit}
-use Rattle.mk_plan.specs.Visits.{IsNoLater}
+use Rattle.mk_plan.specs.Sequential.{Messages, sequential, all_ended, run_talk, talk_of}
 use Rattle.mk_plan.specs.Journals.{View, note}
 use Rattle.mk_plan.specs.Walks.{IsEdge, Reach, nobody}
-use Rattle.mk_plan.specs.Ready.{pending, start, IsReady, IsReadyAlone}
+use Rattle.mk_plan.specs.Ready.{pending, start, IsReady}
 use Rattle.mk_plan.specs.Advance.{IsComing, IsAdvance, bounded, unbounded, IsPromised}
 use Rattle.mk_plan.specs.Orderly.{IsAllowed}
 use Rattle.mk_plan.specs.Agreement.{Alike}
-use Rattle.mk_order.proofs.VisitOrder.{ranks_differ}
-use Rattle.mk_order.proofs.Reasons.{pending_below, in_triggers, triggers_in, triggers_early, edge_of}
+use Rattle.mk_order.proofs.Reasons.{in_triggers, triggers_in, triggers_early, edge_of}
 use Rattle.mk_order.proofs.RightActs.{made_no_earlier}
 use Rattle.mk_order.proofs.Theory.{parts, laws, output_ended}
 use Rattle.mk_order.proofs.Seen.{seen, turn_of, reach_seen, reach_back, ready_seen, IsSound, follows}

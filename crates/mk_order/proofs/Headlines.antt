@@ -1,17 +1,17 @@
 -- What holds of every orderly journal.
-use Rattle.std.proofs.Common.{◌≡◌, ℕ, ℤ, ◌<◌, true, List, None, sym, ◌∙◌}
+use Rattle.std.proofs.Common.{◌≡◌, ℕ, ℤ, ◌<◌, List, None, sym, ◌∙◌}
 use Rattle.mk_base.specs.declared.tier.Tier.{Tier}
 use Rattle.mk_plan.specs.declared.Plan.{Plan}
 use Rattle.mk_plan.specs.declared.Entry.{Entry}
 use Rattle.mk_plan.specs.Plans.{sim_count, IsValidPlan}
 use Rattle.mk_plan.specs.Journals.{view, got}
-use Rattle.mk_plan.specs.Sequential.{Messages, sequential, all_ended, run_talk}
-use Rattle.mk_plan.specs.Ready.{IsReady, IsReadyAlone, IsDone}
+use Rattle.mk_plan.specs.Sequential.{Messages}
+use Rattle.mk_plan.specs.Ready.{IsReady, IsDone}
 use Rattle.mk_plan.specs.Advance.{IsAdvance, IsPromised}
-use Rattle.mk_plan.specs.Orderly.{IsOrderly, IsOrderlyAlone, IsOrderlySoFar, IsOwnTime}
-use Rattle.mk_plan.specs.Agreement.{Continues, Agrees, IsFinished, Alike}
+use Rattle.mk_plan.specs.Orderly.{IsOrderly, IsOrderlySoFar}
+use Rattle.mk_plan.specs.Agreement.{Continues, Agrees, IsFinished}
 use Rattle.mk_order.proofs.Agreeing.{agreeing, finished, goes_on}
-use Rattle.mk_order.proofs.Going.{promised, same_runs}
+use Rattle.mk_order.proofs.Going.{promised}
 use Rattle.mk_order.proofs.Seen.{reached}
 use Rattle.mk_order.proofs.Told.{heard_seen, got_is}
 

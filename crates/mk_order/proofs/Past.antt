@@ -2,9 +2,7 @@
 use Rattle.std.proofs.Common.{◌≡◌, ℕ, ℤ, true, List, Option, Some, None, option_map, refl, sym, ap, ◌∙◌, subst, ◌⊎◌, inl, inr, ◌<◌, pos, ◌≤ℤ◌}
 use Rattle.mk_order_any.specs.Parts as theory
 use Rattle.mk_order_any.proofs.Marks.{nothing_late_is_missed, new_dues_are_later, acts_right}
-use Rattle.mk_order_any.proofs.Invariant.{invariant_holds}
 use Rattle.mk_base.specs.Lists.{Each}
-use Rattle.mk_plan.specs.Acts.{Act}
 use Rattle.mk_plan.specs.Due.{is_in_run, is_due}
 use Rattle.mk_plan.specs.Plans.{sim_count, IsValidPlan}
 use Rattle.mk_plan.specs.Ready.{pending, start, step_at, last_step, IsReady}

@@ -2,16 +2,13 @@
 -- over all acts.
 use Rattle.std.proofs.Common.{◌≡◌, ℕ, true, List, ◌∷◌, ◌++◌}
 use Rattle.mk_order_any.specs.Parts as theory
-use Rattle.mk_order_any.proofs.Folding.{seq_rises, seq_visited, seq_right, acts_when_due, made_by}
-use Rattle.mk_base.specs.declared.tier.Tier.{Tier}
-use Rattle.mk_base.specs.Lists.{IsIn, Each}
-use Rattle.mk_base.specs.Tiers.{IsBefore}
+use Rattle.mk_order_any.proofs.Folding.{seq_right, made_by}
+use Rattle.mk_base.specs.Lists.{Each}
 use Rattle.mk_plan.specs.declared.Plan.{Plan}
 use Rattle.mk_plan.specs.Plans.{IsValidPlan}
 use Rattle.mk_plan.specs.Acts.{Act}
 use Rattle.mk_plan.specs.Due.{is_due}
-use Rattle.mk_plan.specs.Sequential.{Messages, Visit, visits, act, sequential}
-use Rattle.mk_base.proofs.Lists.{Rises}
+use Rattle.mk_plan.specs.Sequential.{Messages, act, sequential}
 use Rattle.mk_order.proofs.RightActs.{IsRight}
 use Rattle.mk_order.proofs.Theory.{parts, laws}
 

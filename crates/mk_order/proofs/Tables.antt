@@ -1,14 +1,13 @@
 -- Tables of starts that mirror a view: who may be asked for a step, and the max_advance of that step.
 use Rattle.std.proofs.Common.{◌≡◌, ℕ, ◌<◌, ◌≤◌, ℤ, pos, ◌-ℤ◌, ◌≤ℤ◌, Bool, true, false, List, Option, Some, None, is_some, option_map, refl, sym, ap, ◌∙◌, subst, ◌⊎◌, inl, inr, true≢false, arith}
-use Rattle.std.specs.Prelude.{MatchOption, filter}
-use Rattle.std.proofs.lemmas.Bool.{cases_lt}
+use Rattle.std.specs.Prelude.{MatchOption}
 use Rattle.std.proofs.lemmas.Int.{ints, clamps}
 use Rattle.std.specs.Int.{int_min, int_max}
 use Rattle.mk_order_any.proofs.Talks.{above}
 use Rattle.mk_base.specs.declared.tier.Tier.{Tier}
 use Rattle.mk_base.specs.Lists.{IsIn}
-use Rattle.mk_base.specs.Tiers.{before, IsUpTo, IsBefore}
-use Rattle.mk_base.proofs.Lists.{in_filter, filter_in, none_some}
+use Rattle.mk_base.specs.Tiers.{IsUpTo, IsBefore}
+use Rattle.mk_base.proofs.Lists.{none_some}
 use Rattle.mk_plan.specs.declared.Plan.{Plan}
 use Rattle.mk_plan.specs.declared.Entry.{Entry}
 use Rattle.mk_plan.specs.declared.Input.{Input}
@@ -24,13 +23,13 @@ use Rattle.mk_plan.specs.Journals.{OpenTurn, View, view, open_after, begun, told
 use Rattle.mk_plan.specs.Walks.{Reach, nobody, IsEarliest}
 use Rattle.mk_plan.specs.Ready.{least, pending, start, step_at, IsClear, IsReady}
 use Rattle.mk_plan.specs.Advance.{IsOuter, IsAdvance, bounded, unbounded}
-use Rattle.mk_plan.specs.Orderly.{IsOrderlySoFar, IsFirstReady}
+use Rattle.mk_plan.specs.Orderly.{IsOrderlySoFar}
 use Rattle.mk_plan.specs.Report.{is_step}
-use Rattle.mk_order.proofs.Reasons.{pending_below, pending_since, least_is, is_least}
+use Rattle.mk_order.proofs.Reasons.{pending_below, pending_since}
 use Rattle.mk_order.proofs.Theory.{parts, laws}
 use Rattle.mk_order.proofs.Seen.{seen, turn_of, reached, open_after_is}
 use Rattle.mk_order.proofs.Entries.{opened_case, step_start, told_start, went_start, ended_start_open}
-use Rattle.mk_order.proofs.Queues.{is_before, before_is, IsLeastFlagged, no_flag, has_flag}
+use Rattle.mk_order.proofs.Queues.{IsLeastFlagged, no_flag, has_flag}
 use Rattle.mk_order.proofs.Pends.{since_past, closed_last}
 use Rattle.mk_order.specs.Pending.{IsPendingAt, IsTriggeredAt, Pends, StartsOf}
 use Rattle.mk_order.proofs.EndedTurns.{triggered_pends}

@@ -1,7 +1,7 @@
 -- The bounds of simulators never fall, and no trigger comes at or before the last step of its target.
 use Rattle.std.proofs.Common.{◌≡◌, ◌⊎◌, inl, inr, ℕ, List, [], ◌∷◌, ◌++◌, refl, ap, sym, ◌∙◌, subst, append-nil}
 use Rattle.std.specs.Prelude.{true, not, Option, Some, None}
-use Rattle.mk_order_any.specs.Parts.{Parts, In, Every, le, lt, Late, Family, seq, View, Turn, case_of, start, newer, last_after, fresh, last_step, Reach, nobody, Ready, Moves, Reached, heard_of}
+use Rattle.mk_order_any.specs.Parts.{Parts, In, Every, le, lt, Family, seq, View, Turn, case_of, start, newer, last_after, fresh, last_step, Reach, nobody, Ready, Moves, Reached, heard_of}
 use Rattle.mk_order_any.specs.Parts.Reach.{from_start, along}
 use Rattle.mk_order_any.specs.Parts.Moves.{asked, went_on, answered, finished}
 use Rattle.mk_order_any.specs.Parts.Reached.{at_first, then_moves}
@@ -11,7 +11,7 @@ use Rattle.mk_order_any.proofs.Order.{le_refl, lt_le_trans}
 use Rattle.mk_order_any.proofs.Folding.{seq_right}
 use Rattle.mk_order_any.proofs.Frontier.{not_true}
 use Rattle.mk_order_any.proofs.Bounds.{start_open, start_closed}
-use Rattle.mk_order_any.proofs.Invariant.{Agreeing, Opened, invariant_holds}
+use Rattle.mk_order_any.proofs.Invariant.{Agreeing, invariant_holds}
 
 module _ (P : Parts) (L : Laws P) where
   open P use {Tier, Via, Message, Act, at, due, pending, Edge, Link, after, leb, mk, heard}

@@ -1,6 +1,5 @@
 -- Laws of what a fleet was asked.
-use Rattle.std.proofs.Common.{◌≡◌, List, [], ◌++◌, Option, None, Some, sym, ap, ◌∙◌, subst, append_assoc}
-use Rattle.std.proofs.lemmas.List.{append-nil}
+use Rattle.std.proofs.Common.{◌≡◌, List, ◌++◌, Option, None, Some, sym, ap, ◌∙◌, subst, append_assoc}
 use Rattle.mk_outside.specs.Asked.{Asked, Asks}
 
 -- what two calls ask, one after the other

@@ -1,12 +1,12 @@
 -- A call of `paced` that makes no run: the handshake ended early, the clock failed, or memory was
 -- wanting.
-use Rattle.std.proofs.Common.{◌≡◌, inl, inr, ℕ, List, [], ◌∷◌, ◌++◌, Option, Some, None, refl, sym, ◌∙◌, subst}
+use Rattle.std.proofs.Common.{◌≡◌, inl, inr, ℕ, List, [], ◌∷◌, ◌++◌, Option, None, refl, sym, ◌∙◌, subst}
 use Rattle.mk_base.proofs.Lists.{append_nil}
 use Rattle.mk_plan.specs.declared.Plan.{Plan}
 use Rattle.mk_outside.specs.Counts.{HasRisen}
 use Rattle.mk_outside.specs.declared.fleet.LogEntry.{LogEntry}
 use Rattle.mk_outside.specs.declared.fleet.LogEntry.TheVariants.{Rest, Told, Nap}
-use Rattle.mk_outside.specs.Logs.{later_of, last_write}
+use Rattle.mk_outside.specs.Logs.{last_write}
 use Rattle.mk_scenario.specs.declared.parts.Scenario.{Scenario}
 use Rattle.mk_run_crew.specs.Attempts.{Attempt, attempt, longer}
 use Rattle.mk_local.specs.declared.turn.Turn.{Turn}

@@ -9,7 +9,7 @@ use Rattle.mk_outside.specs.Fleets.{IsTold, now_entries}
 use Rattle.mk_outside.specs.Logs.{Adds, greatest_told}
 use Rattle.mk_outside.proofs.OnLogs.{adds_more, adds_none}
 use Rattle.mk_run_laws.proofs.Stepping.{first_or_second}
-use Rattle.mk_run_links.specs.Entries.{IsClockless, IsNotOfClock}
+use Rattle.mk_run_links.specs.Entries.{IsClockless}
 use Rattle.mk_pace_laws.specs.Clocks.{IsRising}
 use Rattle.mk_pace_loop.specs.inner.Turns.{RisesOn}
 use Rattle.mk_pace.specs.inner.Going.{AddsRising}

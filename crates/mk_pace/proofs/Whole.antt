@@ -1,5 +1,5 @@
 -- From the end of a paced run, and the stop of its crew, to what the whole run means.
-use Rattle.std.proofs.Common.{◌≡◌, inl, inr, ℕ, Bool, false, List, [], ◌∷◌, ◌++◌, Option, Some, None, option_map, unwrap_or, refl, ap, ◌∙◌, subst, if◌then◌else◌}
+use Rattle.std.proofs.Common.{◌≡◌, inl, inr, ℕ, false, List, ◌∷◌, ◌++◌, Option, Some, option_map, unwrap_or, refl, ap, ◌∙◌, subst}
 use Rattle.mk_base.specs.declared.LinkNo.{LinkNo}
 use Rattle.mk_base.specs.declared.SimNo.{SimNo}
 use Rattle.mk_base.proofs.Lists.{in_front}

@@ -1,7 +1,7 @@
 -- The items of one simulator, changed among those of all, with what stands at its leaf.
-use Rattle.std.proofs.Common.{◌≡◌, ◌⊎◌, inl, inr, ℕ, zero, suc, ◌<◌, true, List, [], ◌∷◌, ◌++◌, length, replicate, Option, Some, None, IfSome, MatchOption, slice_get, slice_set, get_or, refl, sym, ap, ◌∙◌, subst, arith, is_some, true≢false}
-use Rattle.std.proofs.lemmas.List.{get_or-replicate, get_or-set_same, length-replicate}
-use Rattle.std.proofs.lemmas.Option.{slice_get_read, slice_get-get_or, slice_get_within}
+use Rattle.std.proofs.Common.{◌≡◌, inl, inr, ℕ, zero, suc, ◌<◌, true, List, [], ◌∷◌, ◌++◌, length, replicate, Option, Some, None, IfSome, MatchOption, slice_get, slice_set, get_or, refl, sym, ap, ◌∙◌, subst, is_some, true≢false}
+use Rattle.std.proofs.lemmas.List.{get_or-set_same, length-replicate}
+use Rattle.std.proofs.lemmas.Option.{slice_get_read, slice_get_within}
 use Rattle.mk_base.specs.declared.SimNo.{SimNo}
 use Rattle.mk_base.proofs.Counts.{same_or_not}
 use Rattle.mk_base.proofs.Items.{get_replicate}

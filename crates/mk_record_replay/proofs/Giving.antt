@@ -1,5 +1,5 @@
 -- What the answers of a core make of a replay that is on its way.
-use Rattle.std.proofs.Common.{◌≡◌, ℕ, ◌+◌, ◌-◌, ◌<◌, ◌≤◌, List, [], ◌∷◌, ◌++◌, length, map, reverse, Option, Some, None, option_map, unwrap_or, slice_get, refl, sym, ap, ◌∙◌, subst, ◌⊎◌, inl, inr, arith, append_assoc, length-append, filter, All, Result, Ok, Err, IfOk}
+use Rattle.std.proofs.Common.{◌≡◌, ℕ, ◌<◌, ◌≤◌, List, [], ◌∷◌, ◌++◌, length, map, reverse, Option, Some, None, option_map, unwrap_or, slice_get, refl, sym, ap, ◌∙◌, subst, ◌⊎◌, inl, inr, append_assoc, filter, All, Result, Ok, Err, IfOk}
 use Rattle.std.proofs.lemmas.List.{reverse-append}
 use Rattle.mk_base.specs.declared.SimNo.{SimNo}
 use Rattle.mk_base.specs.declared.tier.Tier.{Tier}
@@ -26,7 +26,7 @@ use Rattle.mk_sched.specs.declared.faults.CoreFault.TheVariants.{TooLong}
 use Rattle.mk_sched.specs.declared.faults.Next.TheVariants as next
 use Rattle.mk_sched.specs.declared.faults.Taken.TheVariants as taken
 use Rattle.mk_sched.specs.Cores.{CoreState, Stands}
-use Rattle.mk_sched.specs.Answers.{NextOf, ArriveOf, IsAsked, AwaitsMessage, IsOver, IsQuiet, IsAnswered, IsLastFaulty, WasFaulty, SomeReady, SomeOpen, with_message}
+use Rattle.mk_sched.specs.Answers.{NextOf, ArriveOf, IsAsked, IsQuiet, IsAnswered, IsLastFaulty, WasFaulty, SomeReady, with_message}
 use Rattle.mk_record_replay.specs.declared.asking.Standstill.TheVariants as standstills
 use Rattle.mk_record_replay.specs.declared.replaying.ReplayEnd.{ReplayEnd}
 use Rattle.mk_record_replay.specs.declared.replaying.ReplayEnd.TheVariants.{Done, Core, Short}

@@ -1,5 +1,5 @@
 -- What is said on a link of a resumed run.
-use Rattle.std.proofs.Common.{◌⊎◌, inl, inr, ℕ, ◌<◌, ◌≤◌, List, [], ◌∷◌, ◌++◌, length, map, sym, ap, ◌∙◌, arith, append_assoc}
+use Rattle.std.proofs.Common.{inl, inr, ℕ, List, [], ◌∷◌, length, map, sym, ap, ◌∙◌}
 use Rattle.mk_base.specs.Lists.{BeginsWith}
 use Rattle.mk_base.proofs.Lists.{append_nil, filter_map_append, map_append}
 use Rattle.mk_plan.specs.declared.Entry.{Entry}

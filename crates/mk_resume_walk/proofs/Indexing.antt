@@ -4,7 +4,7 @@ use Rattle.std.proofs.lemmas.Bool.{cases_eq, eqb-true, eq-eqb}
 use Rattle.std.proofs.lemmas.List.{take-append-drop}
 use Rattle.std.proofs.Math.Seq.{take-append-add}
 use Rattle.mk_base.specs.Lists.{BeginsWith}
-use Rattle.mk_base.proofs.Lists.{none_some, some_same, append_nil, filter_append, get_is, length_set, map_append, set_else, set_here}
+use Rattle.mk_base.proofs.Lists.{none_some, some_same, append_nil, filter_append, get_is, map_append, set_else, set_here}
 use Rattle.mk_plan.specs.declared.Entry.{Entry}
 use Rattle.mk_plan.specs.Journals.{sim_of}
 use Rattle.mk_resume_walk.specs.Walks.{has_none, IsFirstOwn, is_of}

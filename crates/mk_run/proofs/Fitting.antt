@@ -1,5 +1,5 @@
 -- The plan of a run fits the kinds of its simulators.
-use Rattle.std.proofs.Common.{◌≡◌, ◌≢◌, inl, inr, ℕ, ℤ, zero, suc, ◌+◌, ◌<◌, ◌==◌, ◌≤ℤ◌, pos, true, List, [], ◌∷◌, map, filter, filter_map, fold, length, take, Option, Some, None, Result, Ok, Err, option_map, unwrap_or, slice_get, codes, refl, sym, ap, ◌∙◌, subst, arith}
+use Rattle.std.proofs.Common.{◌≡◌, ◌≢◌, inl, inr, ℕ, ℤ, zero, suc, ◌+◌, ◌<◌, ◌==◌, ◌≤ℤ◌, pos, true, List, [], ◌∷◌, map, filter, filter_map, fold, length, take, Option, Some, None, Result, Ok, option_map, unwrap_or, slice_get, codes, refl, sym, ap, ◌∙◌, subst, arith}
 use Rattle.std.specs.List.{enumerate_from}
 use Rattle.std.proofs.lemmas.Int.{ints}
 use Rattle.std.proofs.lemmas.Option.{slice_get_within, get_or_from_slice_get}
@@ -25,7 +25,7 @@ use Rattle.mk_scenario.specs.declared.parts.Scenario.{Scenario}
 use Rattle.mk_launch.specs.Ready.{IsPrepared}
 use Rattle.mk_local.specs.declared.turn.Turn.{Turn}
 use Rattle.mk_local.specs.Accepted.{meta_of, IsMetadataAccepted}
-use Rattle.mk_local.specs.Calls.{after_call, message, unless_bad, unless_refused, first_bad, is_init_param}
+use Rattle.mk_local.specs.Calls.{after_call, message, unless_bad, first_bad, is_init_param}
 use Rattle.mk_local.specs.Kinds.{name_of, type_of}
 use Rattle.mk_local.specs.Metadata.{metadata}
 use Rattle.mk_local.specs.Simulators.{Simulator}

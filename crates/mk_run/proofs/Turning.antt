@@ -7,7 +7,6 @@ use Rattle.mk_base.proofs.Lists.{some_same, append_nil}
 use Rattle.mk_plan.specs.declared.Item.{Item}
 use Rattle.mk_plan.specs.declared.Item.TheVariants.{Step}
 use Rattle.mk_plan.specs.declared.Message.{Message}
-use Rattle.mk_plan.specs.declared.Entry.{Entry}
 use Rattle.mk_plan.specs.declared.Entry.TheVariants.{Sent, Got}
 use Rattle.mk_plan.specs.Plans.{sim_count, first_id}
 use Rattle.mk_plan.specs.Journals.{Arrival, sent}
@@ -38,7 +37,7 @@ use Rattle.mk_run.proofs.Endings.{unsent_ends, unheard_ends}
 use Rattle.mk_run.proofs.Going.{asked_low, asked_opened, asked_replied, asked_linked, asked_goes}
 use Rattle.mk_run.proofs.Hearing.{heard_low, heard_fits, heard_running, heard_no_other, heard_log_right, answered_opened, answered_replied, answered_linked, answered_goes}
 use Rattle.mk_sched.proofs.Pushed.{patient_got}
-use Rattle.mk_run.proofs.Pushed.{same_last, range_got}
+use Rattle.mk_run.proofs.Pushed.{range_got}
 use Rattle.mk_run.proofs.Shown.{ends_as}
 
 -- ---- sending what the journal ends with

@@ -8,18 +8,15 @@ use Rattle.mk_outside.specs.declared.fleet.LogEntry.{LogEntry}
 use Rattle.mk_outside.specs.Counts.{HasRisen}
 use Rattle.mk_outside.specs.Logs.{Adds}
 use Rattle.mk_outside.proofs.OnLogs.{adds_more}
-use Rattle.mk_plan.specs.declared.Message.{Message}
 use Rattle.mk_launch.specs.Starts.{links_in}
 use Rattle.mk_run_laws.specs.Channels.{Channel}
-use Rattle.mk_run_laws.specs.Crews.{CrewState, AreMoved, AreStopped}
-use Rattle.mk_run_laws.proofs.Moving.{moved_there, moved_back}
-use Rattle.mk_run_links.specs.Places.{AreDistinct, AreOpen, IsSet, Channels, at, crew, new_channel, new_channels}
+use Rattle.mk_run_laws.specs.Crews.{CrewState, AreStopped}
+use Rattle.mk_run_links.specs.Places.{AreDistinct, AreOpen, IsSet, Channels, at, new_channel, new_channels}
 use Rattle.mk_run_crew.specs.inner.Placed.{IsPlaced}
 use Rattle.mk_base.proofs.Items.{get_map, only_one}
 use Rattle.mk_base.proofs.Counts.{same_or_not}
 use Rattle.mk_session.proofs.Polling.{risen_after}
 use Rattle.mk_run_links.proofs.OnStops.{risen_later}
-use Rattle.mk_run_links.proofs.Standing.{set_back}
 
 -- ---- channels that move
 

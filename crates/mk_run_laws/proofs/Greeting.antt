@@ -1,8 +1,8 @@
 -- The steps of a handshake, from the first request to the last reply.
-use Rattle.std.proofs.Common.{◌≡◌, ℕ, ◌+◌, ◌==◌, Bool, true, false, List, [], ◌∷◌, ◌++◌, length, filter_map, Option, Some, None, slice_get, slice_set, option_and_then, refl, sym, ap, ◌∙◌, subst, inl, inr, arith, append_assoc, length-append, true≢false, if◌then◌else◌}
+use Rattle.std.proofs.Common.{◌≡◌, ℕ, ◌+◌, ◌==◌, Bool, true, false, List, [], ◌∷◌, ◌++◌, length, filter_map, Option, Some, None, refl, sym, ap, ◌∙◌, subst, inl, inr, arith, append_assoc, length-append, true≢false, if◌then◌else◌}
 use Rattle.std.specs.List.{cons_option}
 use Rattle.mk_base.specs.declared.LinkNo.{LinkNo}
-use Rattle.mk_base.proofs.Lists.{append_nil, none_some, filter_map_append, set_here, set_else}
+use Rattle.mk_base.proofs.Lists.{append_nil, none_some, filter_map_append}
 use Rattle.mk_plan.specs.declared.Call.{Call}
 use Rattle.mk_plan.specs.declared.Message.{Message}
 use Rattle.mk_plan.specs.Sequential.{Messages}

@@ -5,7 +5,7 @@ use Rattle.mk_plan.specs.declared.Message.{Message}
 use Rattle.mk_outside.specs.declared.fleet.LogEntry.{LogEntry}
 use Rattle.mk_outside.specs.declared.fleet.LogEntry.TheVariants.{Rest}
 use Rattle.mk_run_laws.specs.Channels.{Channel, IsMoved}
-use Rattle.mk_run_laws.specs.Crews.{CrewState, channel_at, IsMovedAt, AreMoved, AreParkedAtRests, IsRestless}
+use Rattle.mk_run_laws.specs.Crews.{CrewState, channel_at, IsMovedAt, AreMoved, AreParkedAtRests}
 use Rattle.mk_run_laws.proofs.Moving.{moved_twice, moved_there}
 use Rattle.mk_run_laws.proofs.Stepping.{first_or_second}
 use Rattle.mk_base.proofs.Items.{not_empty}

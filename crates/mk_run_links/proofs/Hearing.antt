@@ -24,7 +24,7 @@ use Rattle.mk_run_links.specs.Crews.{ArePending, HearsAs, TriesAs}
 use Rattle.mk_run_links.specs.Halts.{HeardOf, ShowsHalt}
 use Rattle.mk_run_links.specs.inner.OneChannel.{unparked}
 use Rattle.mk_run_links.specs.Entries.{AreOfLinks, AreOn}
-use Rattle.mk_run_links.specs.Places.{Channels, IsChannelLink, IsLinked, AreOpen, AreParked, at, crew}
+use Rattle.mk_run_links.specs.Places.{Channels, IsChannelLink, AreOpen, AreParked, at, crew}
 use Rattle.mk_run_links.specs.inner.Looks.{AreWoken, LooksAs, ListensAs, RestsAs, listened_of}
 use Rattle.mk_run_links.proofs.Looking.{all_woken, left_alone, nothing_by, rested_moved}
 use Rattle.mk_run_links.proofs.Marking.{marked_moved}

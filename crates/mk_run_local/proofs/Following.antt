@@ -1,5 +1,5 @@
 -- What a simulator within the program sends last is its reply to the last item.
-use Rattle.std.proofs.Common.{◌≡◌, ℕ, ◌+◌, ◌<◌, ℤ, ◌≤ℤ◌, pos, negsuc, Bool, true, false, cond, List, [], ◌∷◌, ◌++◌, map, fold, option_to_list, is_some, slice_get, Option, Some, None, option_map, option_and_then, unwrap_or, nat_abs, refl, sym, ap, ◌∙◌, subst, arith, append_assoc}
+use Rattle.std.proofs.Common.{◌≡◌, ℕ, ◌+◌, ◌<◌, ℤ, ◌≤ℤ◌, pos, negsuc, true, false, List, [], ◌∷◌, ◌++◌, map, fold, option_to_list, is_some, slice_get, Option, Some, None, option_map, option_and_then, unwrap_or, nat_abs, refl, sym, ap, ◌∙◌, subst, arith, append_assoc}
 use Rattle.std.proofs.lemmas.Int.{ints}
 use Rattle.mk_base.specs.declared.json.Json.{Json}
 use Rattle.mk_base.specs.declared.tier.Tier.{Tier}
@@ -15,7 +15,7 @@ use Rattle.mk_plan.specs.declared.Place.{Place}
 use Rattle.mk_plan.specs.declared.Place.TheVariants.{Stepping, Fetching}
 use Rattle.mk_plan.specs.Plans.{first_id}
 use Rattle.mk_plan.specs.Turns.{is_wrong, wanted, wrong}
-use Rattle.mk_plan.specs.Sequential.{Visit, visits, takes_id, id_after}
+use Rattle.mk_plan.specs.Sequential.{Visit, visits, id_after}
 use Rattle.mk_plan.specs.Journals.{bare}
 use Rattle.mk_order.proofs.VisitOrder.{visits_are}
 use Rattle.mk_scenario.specs.declared.parts.Scenario.{Scenario}

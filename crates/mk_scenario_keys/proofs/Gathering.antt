@@ -1,7 +1,7 @@
 -- What is gathered from the items of a list, in order, up to the first fault.
-use Rattle.std.proofs.Common.{◌≡◌, ℕ, ◌+◌, ◌<◌, ◌≤◌, arith, List, [], ◌∷◌, ◌++◌, map, length, get_or, Result, Ok, Err, refl, ap, ◌∙◌, sym, suc, drop}
+use Rattle.std.proofs.Common.{◌≡◌, ℕ, ◌+◌, ◌<◌, arith, List, [], ◌∷◌, ◌++◌, map, length, get_or, Result, Ok, Err, refl, ap, ◌∙◌, sym, suc, drop}
 use Rattle.std.proofs.Math.Seq.{drop-cons}
-use Rattle.std.proofs.lemmas.List.{append_assoc, append-nil, drop_all}
+use Rattle.std.proofs.lemmas.List.{append_assoc}
 use Rattle.std.specs.List.{enumerate_from}
 use Rattle.mk_base.specs.Verdicts.{put_first, all_well}
 use Rattle.mk_scenario_keys.specs.Tests.{each_at}

@@ -27,7 +27,7 @@ use Rattle.mk_sched_open.specs.Turns.{IsInRun}
 use Rattle.mk_sched_supply.specs.Stock.{IsStockOf, MayComeNext}
 use Rattle.mk_sched.specs.declared.derived.Derived.{Derived}
 use Rattle.mk_sched.specs.declared.faults.Ended.{Ended}
-use Rattle.mk_sched.specs.declared.faults.Ended.TheVariants.{Faulty, OutOfMemory}
+use Rattle.mk_sched.specs.declared.faults.Ended.TheVariants.{Faulty}
 use Rattle.mk_sched.specs.declared.faults.CoreFault.TheVariants.{TooLong}
 use Rattle.mk_sched.specs.declared.faults.Next.{Next}
 use Rattle.mk_sched.specs.declared.faults.Next.TheVariants as next

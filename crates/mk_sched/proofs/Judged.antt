@@ -24,7 +24,7 @@ use Rattle.mk_plan.specs.Acts.{content_of}
 use Rattle.mk_plan.specs.Turns.{unasked, first_cause, is_number, time_in, holds_of, part_for, value_for, wrong, wrong_data, next_place, wanted, is_output_time}
 use Rattle.mk_plan.specs.Journals.{View, OpenTurn, place_at, note, note_got, note_right, fault_of}
 use Rattle.mk_plan_judge.specs.Places.{open_id}
-use Rattle.mk_plan_judge.proofs.Right.{right_data_reply, right_step_reply, right_next_fits, right_output_time_fits}
+use Rattle.mk_plan_judge.proofs.Right.{right_data_reply, right_step_reply, right_next_fits}
 use Rattle.mk_plan.specs.Deliveries.{triggering_from}
 use Rattle.mk_sched_agenda.specs.Endings.{CanBeMade}
 use Rattle.mk_sched_open.specs.Turns.{IsRight, IsInRun, IsPlaceInRun, next_in}

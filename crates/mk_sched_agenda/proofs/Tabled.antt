@@ -8,10 +8,9 @@ use Rattle.mk_plan.specs.Journals.{View}
 use Rattle.mk_plan.specs.Ready.{start, IsReady}
 use Rattle.mk_plan.specs.Advance.{IsAdvance}
 use Rattle.mk_plan.specs.Orderly.{IsFirstReady}
-use Rattle.mk_tiers.specs.Seen.{Seen, AreOfPlan, start_in, is_busy_in, IsReadyIn, IsFirstReadyIn, IsOuterIn, IsEarliestIn}
-use Rattle.mk_order.proofs.Tables.{ready_by, ready_why, nobody_by, same_starts, earliest_by, IsOuterTime}
-use Rattle.mk_order.specs.Pending.{StartsOf, IsMarkOf}
-use Rattle.mk_order.proofs.LaterQuestions.{earliest_is_mark}
+use Rattle.mk_tiers.specs.Seen.{Seen, AreOfPlan, start_in, is_busy_in, IsReadyIn, IsFirstReadyIn, IsOuterIn}
+use Rattle.mk_order.proofs.Tables.{ready_by, ready_why, nobody_by, same_starts, IsOuterTime}
+use Rattle.mk_order.specs.Pending.{StartsOf}
 
 module _ (P : Plan) (V : View) (B : Seen) (of_plan : AreOfPlan P B) (mirror : StartsOf P V (start_in B) (is_busy_in B)) where
   pub ready_is : (s : ℕ) (r : IsReadyIn P B s) → IsReady P V s r.at

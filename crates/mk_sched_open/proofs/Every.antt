@@ -1,8 +1,8 @@
 -- What is kept of every simulator, before any entry and by each.
-use Rattle.std.proofs.Common.{◌≡◌, ℕ, zero, suc, ◌+◌, ◌<◌, ◌≤◌, ◌^◌, ℤ, Bool, false, List, [], ◌∷◌, ◌++◌, length, map, Option, Some, None, option_map, unwrap_or, slice_get, slice_set, get_or, take, refl, sym, ap, ◌∙◌, subst, inl, inr, arith, if◌then◌else◌}
-use Rattle.std.proofs.lemmas.List.{length-map, take_more}
+use Rattle.std.proofs.Common.{◌≡◌, ℕ, zero, suc, ◌+◌, ◌<◌, ◌≤◌, ◌^◌, ℤ, Bool, false, List, [], ◌∷◌, ◌++◌, length, map, Option, Some, None, option_map, unwrap_or, slice_get, slice_set, take, refl, sym, ap, ◌∙◌, subst, inl, inr, arith, if◌then◌else◌}
+use Rattle.std.proofs.lemmas.List.{length-map}
 use Rattle.mk_base.specs.declared.tier.Tier.{Tier}
-use Rattle.mk_base.proofs.Lists.{all_at, none_some, some_same, below_get, length_set, set_here, set_else, map_append}
+use Rattle.mk_base.proofs.Lists.{all_at, none_some, some_same, below_get, length_set, set_here, set_else}
 use Rattle.mk_plan.specs.declared.Plan.{Plan}
 use Rattle.mk_plan.specs.declared.PlanSim.{PlanSim}
 use Rattle.mk_plan.specs.declared.Input.{Input}
@@ -11,7 +11,6 @@ use Rattle.mk_plan.specs.declared.Item.TheVariants.{Step}
 use Rattle.mk_plan.specs.declared.Message.{Message}
 use Rattle.mk_plan.specs.declared.Message.TheVariants.{Ask, Success, Failure}
 use Rattle.mk_plan.specs.declared.Place.{Place}
-use Rattle.mk_plan.specs.declared.Place.TheVariants.{Stepping, Fetching}
 use Rattle.mk_plan.specs.Plans.{sim_count, first_id, IsValidPlan}
 use Rattle.mk_plan.specs.Acts.{Act, Heard}
 use Rattle.mk_plan.specs.Asks.{AskAnswer, Answered, Refused, item_of, answer}
@@ -25,7 +24,7 @@ use Rattle.mk_sched_open.specs.declared.sims.Sim.{Sim}
 use Rattle.mk_sched_open.specs.Turns.{IsRight, IsInRun, next_in}
 use Rattle.mk_sched_open.specs.Sims.{IsSimOf, IsTurn, AreSimsOf, free_id}
 use Rattle.mk_sched_open.specs.inner.Changes.{new_sim, begun_sim, gone_on, open_id, ended_sim}
-use Rattle.mk_sched_open.proofs.OneSim.{sim_more, sim_begun, sim_on, sim_ended, open_low, went, is_stepping, is_fetching}
+use Rattle.mk_sched_open.proofs.OneSim.{sim_more, sim_begun, sim_on, sim_ended, open_low, went}
 use Rattle.mk_base.proofs.Counts.{same_or_not, not_same, same_self}
 use Rattle.mk_base.proofs.Items.{get_map}
 

@@ -1,21 +1,19 @@
 -- What a message does to a view, by what is open where it comes from; and the time of a step that
 -- is asked for.
-use Rattle.std.proofs.Common.{◌≡◌, ℕ, ◌≤◌, ◌≤ℤ◌, true, List, length, Option, Some, None, refl, sym, ap, ◌∙◌, arith, int_lt, nat_le}
+use Rattle.std.proofs.Common.{◌≡◌, ℕ, ◌≤◌, ◌≤ℤ◌, true, List, Option, Some, sym, ap, ◌∙◌, arith, int_lt, nat_le}
 use Rattle.std.proofs.lemmas.Int.{ints}
 use Rattle.std.proofs.lemmas.Bool.{leb-true}
 use Rattle.mk_base.specs.declared.SimNo.{SimNo}
 use Rattle.mk_base.specs.declared.tier.Tier.{Tier}
-use Rattle.mk_base.proofs.Lists.{none_some}
 use Rattle.mk_plan.specs.declared.Plan.{Plan}
 use Rattle.mk_plan.specs.declared.Entry.{Entry}
 use Rattle.mk_plan.specs.declared.Entry.TheVariants.{Got}
 use Rattle.mk_plan.specs.declared.Message.{Message}
 use Rattle.mk_plan.specs.declared.Place.{Place}
 use Rattle.mk_plan.specs.declared.Cause.{Cause}
-use Rattle.mk_plan.specs.declared.Cause.TheVariants.{Wrong, Failed}
 use Rattle.mk_plan.specs.Plans.{IsValidPlan}
-use Rattle.mk_plan.specs.Turns.{wrong, next_place}
-use Rattle.mk_plan.specs.Journals.{View, OpenTurn, WrongMessage, FailedSim, place_at, heard, fault_of, note_right, note_got, note, view}
+use Rattle.mk_plan.specs.Turns.{wrong}
+use Rattle.mk_plan.specs.Journals.{View, OpenTurn, place_at, fault_of, note_right, note_got, note, view}
 use Rattle.mk_plan.specs.Orderly.{IsOrderlySoFar}
 use Rattle.mk_plan.specs.Ready.{IsReady}
 use Rattle.mk_plan.specs.Advance.{IsAdvance}

@@ -22,9 +22,9 @@ use Rattle.mk_plan.specs.Deliveries.{Supply}
 use Rattle.mk_plan.specs.Inputs.{value_at}
 use Rattle.mk_plan.specs.Turns.{next_place, wanted}
 use Rattle.mk_plan.specs.Sequential.{ids_used, items, told, messages_in, opening, response}
-use Rattle.mk_plan.specs.Journals.{OpenTurn, ended_turn, bare, place_at}
+use Rattle.mk_plan.specs.Journals.{OpenTurn, ended_turn, bare}
 use Rattle.mk_sched_open.specs.declared.sims.Sim.{Sim}
-use Rattle.mk_sched_open.specs.Turns.{IsInRun, IsPlaceInRun, IsOpenBy, IsStepping, IsFetching, ids_in, next_in}
+use Rattle.mk_sched_open.specs.Turns.{IsInRun, IsOpenBy, IsStepping, IsFetching, ids_in, next_in}
 use Rattle.mk_sched_open.specs.Sims.{IsSimOf, IsTurn, free_id}
 use Rattle.mk_sched_open.specs.inner.Changes.{begun_sim, gone_on, open_id, ended_sim}
 

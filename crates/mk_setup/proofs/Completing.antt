@@ -1,5 +1,5 @@
 -- The plan of what is kept.
-use Rattle.std.proofs.Common.{◌≡◌, ℕ, ◌+◌, ◌<◌, ◌≤◌, List, length, Option, None, Result, Ok, Err, sym, ap, ◌∙◌, subst, arith, IfOk, IfErr}
+use Rattle.std.proofs.Common.{◌≡◌, ℕ, ◌+◌, ◌<◌, ◌≤◌, List, length, Option, Result, Ok, Err, sym, ap, ◌∙◌, subst, arith, IfOk}
 use Rattle.std.specs.Prelude.{unwrap_or}
 use Rattle.std.specs.List.{range_with_len}
 use Rattle.mk_base.proofs.Lists.{each_in, in_map}
@@ -7,12 +7,11 @@ use Rattle.mk_plan.specs.declared.Plan.{Plan}
 use Rattle.mk_plan.specs.Plans.{IsValidPlan}
 use Rattle.mk_connect_pairs.specs.declared.fault.ConnectFault.{ConnectFault}
 use Rattle.mk_connect.specs.Complete.{IsComplete}
-use Rattle.mk_connect_pairs.specs.Faults.{IsFaultOf}
 use Rattle.mk_connect.specs.Made.{number_at, plan_made}
 use Rattle.mk_connect.proofs.ByPlaces.{range_get}
 use Rattle.mk_scenario.specs.declared.parts.Scenario.{Scenario}
 use Rattle.mk_run_laws.specs.Handshake.{setup_count}
-use Rattle.mk_setup.specs.Asking.{plan_of, refusal}
+use Rattle.mk_setup.specs.Asking.{plan_of}
 use Rattle.mk_setup.specs.Requests.{first_ids}
 use Rattle.mk_setup.specs.Seen.{SetupState}
 use Rattle.mk_setup.specs.inner.Standing.{IsPlanOf, IsSoundSetup}

@@ -1,17 +1,13 @@
 -- What is answered to a request, by the call or the item that it is.
-use Rattle.std.proofs.Common.{◌≡◌, ℕ, Bool, true, false, List, Option, Some, None, codes, if◌then◌else◌, refl, sym, ap, ◌∙◌}
-use Rattle.std.specs.Global.{Vec}
+use Rattle.std.proofs.Common.{◌≡◌, ℕ, Bool, true, false, List, Some, None, codes, if◌then◌else◌, refl, sym, ap, ◌∙◌}
 use Rattle.mk_base.specs.declared.json.Json.{Json}
 use Rattle.mk_plan.specs.declared.Call.{Call}
-use Rattle.mk_plan.specs.declared.Call.TheVariants.{Init, Create, SetupDone, Stop}
-use Rattle.mk_plan.specs.declared.Item.{Item}
 use Rattle.mk_plan.specs.declared.Message.TheVariants.{Ask}
-use Rattle.mk_local.specs.Calls.{IsCallReplied, after_call}
 use Rattle.mk_local.specs.Simulators.{Simulator}
 use Rattle.mk_simapi.specs.declared.servant.Answer.{Answer}
 use Rattle.mk_simapi.specs.declared.servant.Answer.TheVariants as answer
-use Rattle.mk_simapi.specs.inner.Answers.{AnswersAs, CallsAs, IsItemPayload}
-use Rattle.mk_simapi.specs.Replies.{after_asked, after_called, after_message, call_answer, is_stop_call, stops_by}
+use Rattle.mk_simapi.specs.inner.Answers.{AnswersAs, CallsAs}
+use Rattle.mk_simapi.specs.Replies.{call_answer, stops_by}
 use Rattle.mk_base.specs.Lists.{same_text}
 use Rattle.mk_simapi.specs.Requests.{call_in, data_in, item_in, step_in}
 use Rattle.mk_base.proofs.Guessing.{text_is}

@@ -10,7 +10,7 @@ use Rattle.mk_plan.specs.Journals.{bare}
 use Rattle.mk_watch_read.specs.declared.rule.Fold.{Fold}
 use Rattle.mk_watch.specs.declared.rows.Row.{Row}
 use Rattle.mk_watch.specs.Values.{with_number, number_at, numbers_at, folded, row_of, rows_of}
-use Rattle.mk_watch.specs.Tables.{row_text, rows_text, total_text}
+use Rattle.mk_watch.specs.Tables.{row_text}
 use Rattle.mk_watch.specs.inner.Folding.{add_number, after_input}
 use Rattle.mk_base.proofs.Items.{fold_push}
 

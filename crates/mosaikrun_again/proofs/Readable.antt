@@ -1,5 +1,5 @@
 -- What a run's journal has may stand in its record.
-use Rattle.std.proofs.Common.{◌≡◌, ℕ, suc, ◌+◌, ◌^◌, ◌<◌, ◌≤◌, inl, inr, ℤ, pos, ◌≤ℤ◌, int_le, ◌&&◌, true, List, [], ◌∷◌, ◌++◌, length, map, filter_map, Option, Some, None, unwrap_or, option_map, refl, sym, ap, ◌∙◌, subst, arith, append_assoc, length-append}
+use Rattle.std.proofs.Common.{◌≡◌, ℕ, suc, ◌+◌, ◌^◌, ◌<◌, ◌≤◌, inl, inr, ℤ, pos, ◌≤ℤ◌, true, List, [], ◌∷◌, ◌++◌, length, map, filter_map, Option, Some, None, refl, sym, ap, ◌∙◌, subst, arith, append_assoc, length-append}
 use Rattle.std.specs.List.{cons_option}
 use Rattle.std.proofs.lemmas.Bool.{and_from}
 use Rattle.std.proofs.lemmas.Int.{ints}
@@ -7,15 +7,13 @@ use Rattle.std.proofs.lemmas.List.{length-map}
 use Rattle.mk_base.specs.declared.SimNo.{SimNo}
 use Rattle.mk_base.specs.declared.tier.Tier.{Tier}
 use Rattle.mk_base.specs.Lists.{Each}
-use Rattle.mk_base.proofs.Lists.{all_at, below_get}
 use Rattle.mk_plan.specs.declared.Plan.{Plan}
-use Rattle.mk_plan.specs.declared.PlanSim.{PlanSim}
 use Rattle.mk_plan.specs.declared.Entry.{Entry}
 use Rattle.mk_plan.specs.declared.Entry.TheVariants.{Sent, Got}
 use Rattle.mk_plan.specs.declared.Item.TheVariants.{Step, GetData, Answer, Refuse}
 use Rattle.mk_plan.specs.declared.Message.{Message}
 use Rattle.mk_plan.specs.Journals.{bare, sent, sent_to}
-use Rattle.mk_plan.specs.Plans.{IsValidPlan, first_id, sim_count}
+use Rattle.mk_plan.specs.Plans.{sim_count}
 use Rattle.mk_run_crew.specs.Attempts.{Attempt}
 use Rattle.mk_run_laws.specs.Handshake.{is_within, setup_count}
 use Rattle.mk_run_laws.proofs.Saying.{link_there}

@@ -1,6 +1,6 @@
 -- From what comes of a scenario to what comes of the demo scenario.
 use Rattle.std.proofs.Common.{◌≡◌, inl, inr, ℕ, true, false, List, [], Option, None, Result, Ok, Err, refl, ap, subst}
-use Rattle.std.specs.Prelude.{IfOk, IfErr}
+use Rattle.std.specs.Prelude.{IfErr}
 use Rattle.mk_scenario.specs.declared.parts.Scenario.{Scenario}
 use Rattle.mk_run_crew.specs.Wholly.{is_wholly_within}
 use Rattle.mk_scenario_demo.specs.Demo.{demo_scenario}

@@ -8,9 +8,6 @@ use Rattle.mk_outside.specs.Folders.{Files, file_limit}
 use Rattle.mk_plan.specs.declared.Plan.{Plan}
 use Rattle.mk_plan.specs.declared.Entry.{Entry}
 use Rattle.mk_plan.specs.Journals as journals
-use Rattle.mk_plan_same.specs.declared.plans.Part.{Part}
-use Rattle.mk_plan_same.specs.declared.plans.Part.TheVariants.{Bounds, Sims, Models, Entities, Conns, Asyncs}
-use Rattle.mk_plan_same.specs.Parts.{IsFirstPart}
 use Rattle.mk_scenario.specs.declared.parts.Scenario.{Scenario}
 use Rattle.mosaikrun_run.specs.Outcomes.{attempt_in, exchange_in}
 use Rattle.mk_local.specs.Kinds.{name_of}

@@ -1,8 +1,8 @@
 -- What the text of a command on files comes to, as an answer.
-use Rattle.std.proofs.Common.{◌≡◌, ℕ, ◌<◌, ◌≤◌, ◌⊎◌, inl, inr, refl, sym, ap, ◌∙◌, subst, length, List, [], ◌∷◌, map, Option, Some, None, Result, Ok, Err, option_map}
-use Rattle.std.specs.Prelude.{IfErr, IfOk, IfSome, OnOk, OnErr}
+use Rattle.std.proofs.Common.{◌≡◌, ℕ, ◌<◌, ◌⊎◌, inl, inr, refl, sym, ◌∙◌, subst, length, List, [], ◌∷◌, map, Option, Some, None, Result, Ok, Err}
+use Rattle.std.specs.Prelude.{IfErr, IfOk, IfSome}
 use Rattle.mk_outside.specs.Counts.{HasRisen}
-use Rattle.mk_outside.specs.Folders.{Files, file_limit, with_file}
+use Rattle.mk_outside.specs.Folders.{Files, file_limit}
 use Rattle.mosaikrun_words.specs.declared.request.FileCommand.{FileCommand}
 use Rattle.mosaikrun_words.specs.declared.request.FileCommand.TheVariants.{Replay, Check, Pair}
 use Rattle.mosaikrun_words.specs.declared.request.PairCommand.{PairCommand}
@@ -19,14 +19,12 @@ use Rattle.mosaikrun_records.specs.Migrations.{IsMigration}
 use Rattle.mosaikrun_check.specs.Checks as checks
 use Rattle.mosaikrun_words.specs.declared.request.Request.TheVariants.{Files as Reads}
 use Rattle.mosaikrun_endings.specs.declared.ending.Ending.{Ending}
-use Rattle.mosaikrun_endings.specs.declared.ending.Ending.TheVariants.{Folder, Mem}
-use Rattle.mosaikrun_program.specs.Around.{Around, FolderSeen, RulesSeen}
-use Rattle.mosaikrun_program.specs.Answers.{SaveAnswer, TextAnswer}
+use Rattle.mosaikrun_program.specs.Around.{Around, RulesSeen}
+use Rattle.mosaikrun_program.specs.Answers.{TextAnswer}
 use Rattle.mosaikrun_program.specs.Commands.{AreHeld, IsAsked, HasBytes, ComesOfFiles, IsNext, IsOutcomeOf, IsStuck, IsUnreadable, OfTwo, read_by, target_of}
 use Rattle.mosaikrun_program.specs.inner.Making.{IsMadeOfOne, IsUnmade}
 use Rattle.mosaikrun_program.specs.Program.{EndedAs}
 use Rattle.mosaikrun_program.proofs.Playing.{performed}
-use Rattle.mk_session.proofs.Polling.{risen_after}
 
 -- the command that was asked for has come to this text, and the fleet wasn't used
 pub has_made : (S : Around) (command : FileCommand) (text : Result (List ℕ) Ending) (answer : Result (Unit {0}) Ending) → IsAsked S.words (Reads command) → ComesOfFiles S.folder.files S.outside.kinds S.rules command text → TextAnswer S (target_of command) text answer

@@ -1,7 +1,6 @@
 -- What is done over a fleet, as an answer.
-use Rattle.std.proofs.Common.{◌≡◌, ℕ, ◌≤◌, arith, inl, inr, ◌∙◌, subst, List, [], ◌∷◌, Option, Some, None, Result, Ok, Err}
+use Rattle.std.proofs.Common.{◌≡◌, ℕ, ◌≤◌, inl, inr, ◌∙◌, subst, List, [], ◌∷◌, Option, Some, None, Result, Ok, Err}
 use Rattle.std.specs.Prelude.{is_some, IfOk, IfErr}
-use Rattle.mk_outside.specs.Counts.{HasRisen}
 use Rattle.mk_outside.specs.Folders.{Files}
 use Rattle.mosaikrun_words.specs.declared.request.Request.TheVariants.{Run, Paced}
 use Rattle.mosaikrun_endings.specs.declared.ending.Ending.{Ending}

@@ -1,14 +1,14 @@
 -- Two runs of a scenario whose simulators are all within the program say the same, and so do two
 -- whose simulators answer alike.
-use Rattle.std.proofs.Common.{◌≡◌, inl, inr, ℕ, zero, suc, ◌+◌, ◌<◌, ◌≤◌, Bool, true, false, List, [], ◌∷◌, ◌++◌, length, map, slice_get, Option, Some, Result, Ok, refl, sym, ap, ◌∙◌, subst, arith}
+use Rattle.std.proofs.Common.{◌≡◌, inl, inr, ℕ, ◌+◌, ◌<◌, ◌≤◌, Bool, true, false, List, [], ◌∷◌, length, map, slice_get, Option, Some, Ok, sym, ap, ◌∙◌, subst, arith}
 use Rattle.std.proofs.Math.Path.{fun_ext}
 use Rattle.std.proofs.lemmas.List.{take_all}
 use Rattle.std.specs.List.{enumerate_from}
 use Rattle.mk_base.specs.Lists.{Each}
-use Rattle.mk_base.proofs.Lists.{append_nil, below_get, none_some, some_same}
+use Rattle.mk_base.proofs.Lists.{append_nil, below_get}
 use Rattle.mk_cycles.specs.Edges.{has_edge}
 use Rattle.mk_cycles.specs.Orders.{IsRanking}
-use Rattle.mk_plan.specs.declared.Call.TheVariants.{Create, Init, SetupDone}
+use Rattle.mk_plan.specs.declared.Call.TheVariants.{Create}
 use Rattle.mk_plan.specs.declared.Message.{Message}
 use Rattle.mk_plan.specs.declared.Plan.{Plan}
 use Rattle.mk_plan.specs.Agreement.{Alike}
@@ -23,18 +23,15 @@ use Rattle.mk_scenario.specs.Scenarios.{scenario_of}
 use Rattle.mk_scenario.specs.Wellformed.{IsWellformed, IsWellformedGroup}
 use Rattle.mk_connect.specs.Edges.{edges_of}
 use Rattle.mk_local.specs.declared.turn.Turn.{Turn}
-use Rattle.mk_local.specs.Calls.{call_reply}
-use Rattle.mk_local.specs.Simulators.{Simulator}
 use Rattle.mosaikrun_check.proofs.OneRanking.{same_order}
 use Rattle.mk_run_laws.specs.Handshake.{Request, is_within, setup_requests}
 use Rattle.mk_run_laws.specs.Kinds.{AnswersByKind}
 use Rattle.mk_run_laws.proofs.Existing.{there_are}
 use Rattle.mk_setup.specs.Asking.{plan_of}
 use Rattle.mk_setup.specs.Handshakes.{IsMade, reached}
-use Rattle.mk_setup.specs.Requests.{id_before}
 use Rattle.mk_setup.proofs.Counting.{same_lists}
 use Rattle.mk_run_local.specs.Made.{kind_reply_of}
-use Rattle.mk_run_crew.specs.Answers.{AreKindAnswers, IsKindAnswer}
+use Rattle.mk_run_crew.specs.Answers.{AreKindAnswers}
 use Rattle.mk_run_crew.specs.Wholly.{is_wholly_within}
 use Rattle.mk_run_crew.proofs.Unlinked.{never_linked, within_low}
 use Rattle.mk_run.specs.Laws.{HasSentAll, KindsFit}
@@ -46,7 +43,6 @@ use Rattle.mosaikrun_run.specs.Laws.{AlikeIsOneText, WithinIsOneText}
 use Rattle.mosaikrun_run.specs.Outcomes.{IsPlayed, IsRunOutcome, IsScenarioOutcome, Outside, attempt_in, exchange_in}
 use Rattle.mosaikrun_run.specs.Sayings.{text_of}
 use Rattle.mosaikrun_run.proofs.Reporting.{said_is_done, texts_sequential}
-use Rattle.mk_base.proofs.Items.{each_append, at_each}
 use Rattle.mk_run_crew.proofs.Answered.{one_answer, low_request}
 use Rattle.mk_run.proofs.Fitting.{same_ok}
 

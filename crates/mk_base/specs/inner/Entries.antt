@@ -1,15 +1,12 @@
 -- For proofs alone. A list of entries as a former of its values, which the maps' files in `formers`
 -- share.
-use Rattle.std.specs.Prelude.{◌≡◌, ℕ, max, List, [], ◌∷◌, map}
-use mathlib.Core.Path.{refl, sym, ap, ◌∙◌}
-use mathlib.Core.Former.{Former, Count, Row, this, const, pair, list, list_count, list_put, children}
+use Rattle.std.specs.Prelude.{◌≡◌, List, [], ◌∷◌, map}
+use mathlib.Core.Path.{refl, sym, ap}
+use mathlib.Core.Former.{Former, const, pair}
 use base.Stored.{code_map, coded×, coded_list, gcons}
 use denote.RattleType.{RattleType}
 use denote.HolePlaces.{Recodes}
-use denote.Hole.Carrier.{listed}
-use denote.Param.Nested.{deepest}
-use denote.Param.Weighed.{Weighed, most, none_max, List-puts, w_pair, w_const}
-use Rattle.std.specs.Map.{keys_of, values_of}
+use Rattle.std.specs.Map.{keys_of}
 
 -- a key beside one of g's values
 abbrev pub entry : Former {0} → Type 0 → Former {0}

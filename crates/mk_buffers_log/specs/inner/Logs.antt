@@ -1,6 +1,6 @@
 -- For proofs alone. Beside `Logs`, which has what a reader needs.
-use Rattle.std.specs.Prelude.{◌≡◌, ℕ, ◌+◌, ◌-◌, ◌<◌, ℤ, Bool, true, not, ◌&&◌, ◌||◌, List, [], ◌∷◌, ◌++◌, length, get_or, ◌≤◌, ◌<ℤ◌, ◌⊎◌, nat_lt, false, filter, Option, Some, None, int_lt, int_le, ⊤, if◌then◌else◌}
-use Rattle.std.specs.List.{list_all, list_any}
+use Rattle.std.specs.Prelude.{◌≡◌, ℕ, ◌+◌, ◌<◌, ℤ, Bool, true, not, ◌&&◌, ◌||◌, List, [], ◌∷◌, ◌++◌, length, get_or, ◌≤◌, ◌<ℤ◌, ◌⊎◌, nat_lt, false, filter, Option, Some, None, int_lt, int_le, ⊤, if◌then◌else◌}
+use Rattle.std.specs.List.{list_all}
 use Rattle.std.specs.List.Sorted.{IsPartitionPoint}
 use Rattle.mk_base.specs.declared.tier.Tier.{Tier}
 use Rattle.mk_base.specs.declared.tier.Via.{Via}
@@ -29,26 +29,31 @@ abbrev pub IsAscending : List Timed → Type 0
 IsAscending [] = ⊤
 IsAscending (t ∷ ts) = AllFrom t.at ts × IsAscending ts
 
--- what is made at this time has come by the mark, on its own and by each of these delays
-abbrev pub is_past : List Via → Tier → Tier → Bool
-is_past vias mark x = up_to x mark && list_all (λ v. up_to (delayed x v) mark) vias
-
 -- the second has come by the mark, and by each of these delays the second has come too, or the
 -- first never comes before the run's end
 abbrev pub is_overtaken : List Via → ℤ → Tier → Tier → Tier → Bool
 is_overtaken vias until mark x y = up_to y mark
     && list_all (λ v. does_come v (Some until) mark y || int_le until (delayed x v).time) vias
 
--- by one of these delays the first comes after the mark, and the last comes before the run's end
-abbrev pub is_held_up : List Via → ℤ → Tier → Tier → Tier → Bool
-is_held_up vias until mark x last = list_any (λ v. not (up_to (delayed x v) mark)
-    && int_lt (delayed last v).time until) vias
+-- by each of these delays by which the first comes before the run's end, the second does too
+abbrev pub comes_with : List Via → ℤ → Tier → Tier → Bool
+comes_with vias until x y = list_all (λ v. int_le until (delayed x v).time
+    || int_lt (delayed y v).time until) vias
 
--- at this place the next one isn't made by the mark, or the one there is held up; or it is the last
-abbrev pub IsRest : List Via → ℤ → Tier → List Timed → ℕ → Type 0
-IsRest vias until mark ts p = (d : Timed) → p + 1 < length ts
-    → up_to (get_or ts (p + 1) d).at mark
-    && not (is_held_up vias until mark (get_or ts p d).at (get_or ts (length ts - 1) d).at) ≡ false
+-- at this place the next one isn't made by the mark, or it is the last
+abbrev pub IsRest : Tier → List Timed → ℕ → Type 0
+IsRest mark ts p = (d : Timed) → p + 1 < length ts → up_to (get_or ts (p + 1) d).at mark ≡ false
+
+-- the second place is behind the first; the outputs from the first on to it are settled no sooner
+-- than the one at the first, which stands alone there if it is settled
+pub record IsBehind (vias : List Via) (until : ℤ) (mark : Tier) (ts : List Timed)
+    (p q : ℕ) : Type 0 where
+  pub more : p < q
+  pub within : q ≤ length ts
+  pub later : (m : Tier) (k : ℕ) (d : Timed) → p ≤ k → k < q
+      → is_settled vias until m (get_or ts k d).at ≡ true
+      → is_settled vias until m (get_or ts p d).at ≡ true
+  pub alone : (d : Timed) → is_settled vias until mark (get_or ts p d).at ≡ true → q ≡ p + 1
 
 -- of two outputs that are made at these times and stand at these places, the second is delivered up
 -- to the mark and counts rather than the first
@@ -86,13 +91,6 @@ IsNewestByOf vias until mark ts p = (v : Via) × IsIn v vias × IsNewestAt v (So
 abbrev pub IsNeeded : List Via → ℤ → Tier → List Timed → ℕ → Type 0
 IsNeeded vias until mark ts p = (d : Timed) → is_settled vias until mark (get_or ts p d).at ≡ true
     → IsNewestAt Plain None mark ts p ⊎ IsNewestByOf vias until mark ts p
-
--- how many outputs stand before the first that has not come by the mark, on its own and by each of
--- these delays
-pub record IsFirstToCome (vias : List Via) (mark : Tier) (ts : List Timed) (n : ℕ) : Type 0 where
-  pub within : n ≤ length ts
-  pub before : (k : ℕ) (d : Timed) → k < n → is_past vias mark (get_or ts k d).at ≡ true
-  pub at : (d : Timed) → n < length ts → is_past vias mark (get_or ts n d).at ≡ false
 
 -- two lists of outputs answer alike every question
 pub record SameAnswers (ks hs : List Timed) : Type 0 where

@@ -3,7 +3,7 @@ use Rattle.std.proofs.Common.{arith, sym, subst, ◌∙◌, ◌+◌, List, get_o
 use Rattle.mk_plan.specs.Deliveries.{Timed}
 use Rattle.mk_buffers_log.specs.Logs.{IsAmong}
 use Rattle.mk_buffers_log.proofs.Ascending.{answers_self, anything, forget_step, get_or_any}
-use Rattle.mk_buffers_log.proofs.Keeping.{among_remove, among_self, among_trans, walked_none, walked_drop, walked_next, walked_rest}
+use Rattle.mk_buffers_log.proofs.Keeping.{among_remove, among_self, among_trans, walked_none, walked_drop, walked_jump, walked_next, walked_rest}
 use Rattle.mk_buffers_log.proofs.log.forget_rising.Goals as goal
 
 pub loop-mark-init : goal.loop-mark-init
@@ -36,11 +36,12 @@ loop-mark-preserved c =
     let d : Timed = get_or c.loop-mark.entries.items c.loop-mark.place anything in
     let e : Timed = get_or c.loop-mark.entries.items (c.loop-mark.place + 1) anything in
     record {
-      inside = omega (arith, there);
+      inside = omega (arith, c.behind-place.ensures.within);
       ascends = c.loop-mark.invariant.ascends;
       answers = c.loop-mark.invariant.answers;
       among = c.loop-mark.invariant.among;
-      walked = walked_next c.args.vias.now c.args.until.now c.args.mark c.loop-mark.entries.items c.loop-mark.place d e c.loop-mark.invariant.ascends there (get_or_any c.loop-mark.entries.items c.loop-mark.place anything d (omega (arith, there))) (get_or_any c.loop-mark.entries.items (c.loop-mark.place + 1) anything e there) (sym (c.is_overtaken_at.ensures anything) ∙ c.if-is_overtaken_at.false) c.loop-mark.invariant.walked;
+      walked = walked_jump c.args.vias.now c.args.until.now c.args.mark c.loop-mark.entries.items c.loop-mark.place c.behind-place.result c.loop-mark.invariant.ascends there c.behind-place.ensures
+          (walked_next c.args.vias.now c.args.until.now c.args.mark c.loop-mark.entries.items c.loop-mark.place d e c.loop-mark.invariant.ascends there (get_or_any c.loop-mark.entries.items c.loop-mark.place anything d (omega (arith, there))) (get_or_any c.loop-mark.entries.items (c.loop-mark.place + 1) anything e there) (sym (c.is_overtaken_at.ensures anything) ∙ c.if-is_overtaken_at.false) c.loop-mark.invariant.walked);
     }
 
 pub returns-clause-few : goal.returns-clause-few
