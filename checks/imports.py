@@ -1,12 +1,13 @@
 #!/usr/bin/env python3
-"""Finds, in a second, imports that the prover would refuse after minutes.
+"""Finds, in a second, imports and files that the prover would refuse after minutes.
 
     imports.py          called at the top of the repository; prints a line for each, and ends with 1 if there is one
 
 Of each `use` of a file of definitions, of proofs or of code it looks whether the crate is in this one's line of
 `crates.txt`, whether the module is there, and whether it says each name. It takes a name as said where a declaration, a
 field, a constructor or a `pub use` has it, and looks at names behind an `as` too, but for files of code. What the kit
-and the prover make (`declared`, `contracts`, goals) isn't looked at.
+and the prover make (`declared`, `contracts`, goals) isn't looked at. Each file right in `specs/` or `proofs/` has to be
+named by a `mod` line of the list beside it, and each such line has to name a file.
 """
 
 from __future__ import annotations
@@ -112,8 +113,23 @@ def faults_behind(text: str) -> list[str]:
     return found
 
 
+def faults_of_list(folder: pathlib.Path) -> list[str]:
+    """Returns the files of a folder that its list doesn't name, and what it names that isn't there."""
+    listing = folder / "Lib.antt"
+    text = listing.read_text(encoding="utf-8") if listing.exists() else ""
+    named = set(re.findall(r"^(?:pub )?mod (\S+)$", text, re.M))
+    files = {file.stem for file in folder.glob("*.antt")} - {"Lib"}
+    return [f"no `mod` line names {name}" for name in sorted(files - named)] + [
+        f"there is no {name}" for name in sorted(named - files) if not (folder / name).is_dir()
+    ]
+
+
 def main() -> int:
     count = 0
+    for folder in sorted([*pathlib.Path("crates").glob("*/specs"), *pathlib.Path("crates").glob("*/proofs")]):
+        for fault in faults_of_list(folder):
+            print(f"{folder}/Lib.antt: {fault}")
+            count += 1
     listed = libraries()
     for file in sorted(pathlib.Path("crates").glob("*/*/**/*")):
         if file.suffix not in (".antt", ".rt") or file.parts[2] == "out":
