@@ -119,6 +119,18 @@ impl Desk {
         }
     }
 
+    /// Has each socket take in the changes that the system tells by now.
+    pub fn look<P: OpenProcess + Drop>(
+        &mut self,
+        sockets: &mut [Option<Socket<P>>],
+    ) -> io::Result<()> {
+        match self.take_changes(sockets, Some(Duration::ZERO)) {
+            // a signal came meanwhile; what wasn't told is told by the next look
+            Err(e) if e.kind() == ErrorKind::Interrupted => Ok(()),
+            answer => answer,
+        }
+    }
+
     // Waits until the system tells of changes, at most so long where that is given, and has each
     // socket take in its own.
     fn take_changes<P: OpenProcess + Drop>(

@@ -2,7 +2,7 @@
 ghost use Rattle.std.specs.Prelude.{◌≡◌, ◌≢◌, ◌<◌, ◌≤◌, [], IfOk, length};
 ghost use Rattle.mk_base.specs.Links.{without};
 ghost use Rattle.mk_outside.specs.Counts.{HasRisen};
-ghost use Rattle.mk_outside.specs.Fleets.{IsWritten, ReadAs, StartedAs};
+ghost use Rattle.mk_outside.specs.Fleets.{IsWritten, ReadAs, StartedAs, last_moment};
 
 use crate::desk::{Desk, mark, socket_at};
 use crate::door::{AwaitedAt, connect, open_door};
@@ -222,6 +222,24 @@ fn find_ready<R: Clock, P: OpenProcess + Drop>(
     }
 }
 
+// Has each socket take in the changes that the system tells by now, and gives the clock's time.
+fn moment<R: Clock, P: OpenProcess + Drop>(
+    rt: &R,
+    desk: &mut Option<Desk>,
+    sockets: &mut [Option<Socket<P>>],
+    ticks: &mut Ticks,
+) -> io::Result<u64>
+    ensures rising { IfOk result (λ n. ticks.old.last ≤ n) }
+    ensures last { IfOk result (λ n. ticks.new.last ≡ n) }
+    ensures kept { ticks.old.last ≤ ticks.new.last }
+    ensures range { IfOk result (λ n. n ≤ last_moment) }
+{
+    if let Some(desk) = desk {
+        desk.look(sockets)?;
+    }
+    ticks.passed(rt)
+}
+
 // Closes a link, if it is open, and waits until its child has ended.
 fn close_on<P: OpenProcess + Drop>(
     sockets: &mut [Option<Socket<P>>],
@@ -370,7 +388,8 @@ impl<R: Net + Processes + Clock> Fleet for MioFleet<R> {
 
 impl<R: Net + Processes + Clock> Paced for MioFleet<R> {
     fn now(&mut self) -> Now {
-        match self.ticks.passed(&self.host.rt) {
+        let sockets = self.sockets.as_mut_slice();
+        match moment(&self.host.rt, &mut self.desk, sockets, &mut self.ticks) {
             Ok(moment) => Now::At(moment),
             Err(_) => {
                 self.count_fault();

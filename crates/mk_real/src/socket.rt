@@ -190,7 +190,8 @@ impl<P: OpenProcess + Drop> Socket<P> {
         Ok(())
     }
 
-    /// Reads what is there. Whoever has broken the connection off has closed it.
+    /// Reads what is there; where nothing was and no change was told since, the system isn't asked again. Whoever has
+    /// broken the connection off has closed it.
     pub fn read<R: Clock>(&mut self, rt: &R, registry: &Registry, into: &mut [u8]) -> ReadLink
         requires { 0 < length into.old }
         ensures { (n : ℕ) → result ≡ ReadLink.Got n → (0 < n) × (n ≤ length into.new) }
@@ -200,6 +201,7 @@ impl<P: OpenProcess + Drop> Socket<P> {
         }
         match &mut self.side {
             Side::Awaited(_) => ReadLink::NotYet,
+            Side::Stream(_) if self.silent => ReadLink::NotYet,
             Side::Stream(stream) => hear(stream, &mut self.silent, into),
         }
     }
