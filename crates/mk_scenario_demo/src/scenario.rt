@@ -9,8 +9,8 @@ use mk_base::{List, Mem, Via};
 use mk_scenario::{Block, Group, Scenario, SimPart};
 use std::alloc::Global;
 
-/// The demo scenario of this size, 1 to 100 (`LARGEST_DEMO`): the time goes to 96 times the size, and the size is the parameter `start`
-/// of the households. Fails for want of memory alone.
+/// The demo scenario of this size, 1 to 100 (`LARGEST_DEMO`): the time goes to 96 times the size, and the size is the
+/// parameter `start` of the households. Fails for want of memory alone.
 pub fn demo_scenario(alloc: Global, size: u32) -> Result<Scenario, Mem>
     requires low { 1 ≤ size }
     requires high { size ≤ largest_demo }

@@ -14,7 +14,6 @@ use Rattle.mk_record.specs.Again.{steps_of}
 use Rattle.mk_record.specs.Reading.{Said, reading}
 use Rattle.mk_record.specs.Seen.{came}
 use Rattle.mk_record_compare.specs.Differences.{IsOther}
-use Rattle.mk_record_read.specs.declared.saved.Arrival.{Arrival}
 use Rattle.mk_record_restored.specs.Restored.{IsRestored}
 use Rattle.mk_scenario.specs.declared.parts.Scenario.{Scenario}
 use Rattle.mk_scenario.specs.Scenarios.{scenario_of}

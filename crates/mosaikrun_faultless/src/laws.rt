@@ -6,7 +6,8 @@ use mk_run::runs_are_right;
 use mk_run_crew::within_handshakes_are_faultless;
 
 /// Of a file's bytes that are a scenario whose simulators are all within the program, whose kinds' answers make a plan,
-/// and whose sequential execution meets no limit, nothing goes wrong in any run, where the count of faults doesn't rise.
+/// and whose sequential execution meets no limit, nothing goes wrong in any run, where the count of faults doesn't
+/// rise.
 pub fn within_studies_are_faultless()
     ensures { WithinStudiesAreFaultless }
 {

@@ -44,11 +44,12 @@ use std::alloc::Global;
 use std::sync::Wait;
 
 /// Does what the words ask. A command on files reads them, and puts what it makes of them to `out`; a migration puts
-/// nothing there, and saves a record. A run reads its scenario's file, is made over the fleet, and may wait for
-/// others; it saves its record, where the words give a name, however it ended, if it has a journal and neither memory is
+/// nothing there, and saves a record. A run reads its scenario's file, is made over the fleet, and may wait for others;
+/// it saves its record, where the words give a name, however it ended, if it has a journal and neither memory is
 /// wanting nor the folder fails. A run that goes on from a record reads that file too, once its scenario is accepted,
-/// and saves the record of the whole run, if it took the old one. A run by the clock holds each Step until its moment. The demo is a run too, of a scenario that is no
-/// file. A scenario's simulators within the program are of these kinds, and tables are made by these rules.
+/// and saves the record of the whole run, if it took the old one. A run by the clock holds each Step until its moment.
+/// The demo is a run too, of a scenario that is no file. A scenario's simulators within the program are of these kinds,
+/// and tables are made by these rules.
 ///
 /// Answers the status: 0 where all is done; 2 where the words ask for nothing; 3 where a file isn't there, is too long
 /// or is refused; 4 where the handshake is; 5 where a run or a replay ended by a message, a link, a record that differs

@@ -72,7 +72,8 @@ pub fn status_over<R: Wait, D: Folder, F: Paced, K: Sink, E: Sink>(
     ))
 }
 
-/// What comes of a call: the status, what the outputs have, and what is saved as `k`, nothing at all where it is `None`.
+/// What comes of a call: the status, what the outputs have, and what is saved as `k`, nothing at all where it is
+/// `None`.
 pub struct Comes {
     pub status: u8,
     pub err: &'static str,
