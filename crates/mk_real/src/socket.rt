@@ -154,10 +154,11 @@ impl<P: OpenProcess + Drop> Socket<P> {
         }
     }
 
-    // Puts the stream of a child that has connected in the door's place. Where a write has found
-    // nobody, there is room now.
+    // Puts the stream of a child that has connected in the door's place. Nothing is known of what is there to read, and
+    // where a write has found nobody, there is room now.
     fn open(&mut self, stream: TcpStream) {
         self.side = Side::Stream(stream);
+        self.silent = false;
         self.freed = self.full;
         self.full = false;
     }

@@ -34,9 +34,9 @@ use Rattle.mosaikrun_program.specs.Running.{RunAnswer}
 -- moments: what was said on each link begins what sequential execution sends, no Step before its
 -- moment, each Step's max_advance is a promise, and where the fleet slept, its clock never having
 -- gone back and no simulator being within the program, nothing was due. Where memory was wanting
--- the status is 8. At status 0 all is done, messages may come, and over all that may, the output
--- has grown by exactly the report of what sequential execution sends; and the record of the plan
--- and the journal was saved under the name that was given for it
+-- the status is 8. At status 0 all is done; there are messages that may still come, and over
+-- whichever do the output has grown by exactly the report of what sequential execution sends; and
+-- the record of the plan and the journal was saved under the name that was given for it
 pub record IsRightPacedRun (C : Around) (factor : ℕ) (strict : Option ℕ) (S : Scenario)
     (saved : Option (List ℕ)) (n : ℕ) : Type 0 where
   pub ranks : List ℕ

@@ -55,7 +55,8 @@ pub data IsRequest (words : List Text) : Request → Type 0 where
       → IsNumberGiven 0 4294967295 t n → IsRequest words (Files (Replay r n))
   is_check : (s : Text) → IsSpelled (codes "check") (s ∷ []) [] words
       → IsRequest words (Files (Check s))
-  is_demo : (t : Text) (n : ℕ) → IsSpelled (codes "demo") (t ∷ []) [] words → IsNumber 1 largest_demo n t
+  is_demo : (t : Text) (n : ℕ) → IsSpelled (codes "demo") (t ∷ []) [] words
+      → IsNumber 1 largest_demo n t
       → IsRequest words (Demo n)
   is_pair : (c : PairCommand) (a b : Text) → IsSpelled (pair_word c) (a ∷ b ∷ []) [] words
       → IsRequest words (Files (Pair c a b))

@@ -24,9 +24,11 @@ IsTree leaves nodes = IsTreeBut 0 leaves nodes
 -- it stands at a leaf, and none at the leaves is to be sent before it
 pub record IsLeast (best : Option First) (leaves : List (Option First)) : Type 0 where
   pub some : (f : First) → best ≡ Some f → (k : ℕ) × (slice_get leaves k ≡ Some (Some f))
-  pub least : (k : ℕ) (g : First) → slice_get leaves k ≡ Some (Some g) → (f : First) × (best ≡ Some f) × IsNoLater f g
+  pub least : (k : ℕ) (g : First) → slice_get leaves k ≡ Some (Some g)
+      → (f : First) × (best ≡ Some f) × IsNoLater f g
 
 -- at the leaf of each simulator stands the Step that its items begin with, if they do
 pub record AreFirsts (leaves : List (Option First)) (lists : List (List Held)) : Type 0 where
   pub count : length leaves ≡ length lists
-  pub each : (i : ℕ) (q : List Held) → slice_get lists i ≡ Some q → slice_get leaves i ≡ Some (first_at (record { 0 = i }) q)
+  pub each : (i : ℕ) (q : List Held) → slice_get lists i ≡ Some q
+      → slice_get leaves i ≡ Some (first_at (record { 0 = i }) q)
