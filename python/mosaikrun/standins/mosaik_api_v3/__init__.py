@@ -1,0 +1,4 @@
+"""Stands for mosaik's package `mosaik_api_v3` where that isn't installed."""
+
+from mosaikrun.api import *  # noqa: F401,F403
+from mosaikrun.api import __api_version__, __version__  # noqa: F401
