@@ -13,6 +13,7 @@ the pages that are named by a word that ends with `.md`. It needs no program. It
                                         a line `..` stands for any lines
     `crates/..`, `docs/..`, ..          a file or a folder that is named so, with a slash, from the top or from `crates`,
                                         is there
+    `IsRightCall`, `HasRun`, ..         a name of this shape is declared in some crate
 
 It prints what is missing, and ends with 'N passed, M failed'.
 """
@@ -28,6 +29,8 @@ NAME = re.compile(r"`([^`]+)`")
 FUNCTION = re.compile(r"^\s*(?:pub(?:\([^)]*\))? )?(?:const )?fn (\w+)", re.MULTILINE)
 CLAUSE = re.compile(r"^\s*ensures (?:(\w+) )?\{", re.MULTILINE)
 PATH = re.compile(r"(?:[\w.-]+/)+[\w.-]*")
+SHAPE = re.compile(r"(?:[A-Z][a-z0-9]+){2,}")
+DECLARED = re.compile(r"^\s*(?:(?:pub|abbrev|unfoldable) )*(?:(?:data|record|module|struct|enum|trait) )?(\w+)\b", re.MULTILINE)
 TOPS = ("crates/", "checks/", "docs/", "completion/", "examples/", "python/", ".ci/")
 
 
@@ -136,13 +139,31 @@ def paths(text: str) -> Iterator[tuple[str, bool]]:
             yield f"the file crates/{word}", (ROOT / "crates" / word).exists()
 
 
+@functools.lru_cache(maxsize=None)
+def declared() -> set[str]:
+    """All names that a line of the crates' definitions and code begins with."""
+    found: set[str] = set()
+    for folder in ("specs", "src"):
+        for place in (ROOT / "crates").glob(f"*/{folder}/**/*"):
+            if place.suffix in (".antt", ".rt"):
+                found.update(DECLARED.findall(place.read_text(encoding="utf-8")))
+    return found
+
+
+def names(text: str) -> Iterator[tuple[str, bool]]:
+    """Each name of a page that has the shape of a definition's, with whether one is declared."""
+    prose = re.sub(r"```.*?```", "", text, flags=re.DOTALL)
+    for name in sorted({it for it in NAME.findall(prose) if SHAPE.fullmatch(it)}):
+        yield f"the name {name}", name in declared()
+
+
 def main(words: list[str]) -> int:
     """Tries the pages; returns 0 where all that they name is there."""
     pages = [it for it in words if it.endswith(".md")] or PAGES
     passed, failed = 0, 0
     for page in pages:
         text = (ROOT / page).read_text(encoding="utf-8")
-        for tried in (clause_rows, definition_rows, quotations, paths):
+        for tried in (clause_rows, definition_rows, quotations, paths, names):
             for what, there in tried(text):
                 passed, failed = passed + there, failed + (not there)
                 if not there:
