@@ -11,8 +11,7 @@ the pages that are named by a word that ends with `.md`. It needs no program. It
                                         declares one
     <!-- quotes FILE -->                the lines of the fenced block that follows stand in the file one after another;
                                         a line `..` stands for any lines
-    `crates/..`, `docs/..`, ..          a file or a folder that is named so, with a slash, from the top or from `crates`,
-                                        is there
+    `crates/..`, `docs/..`, ..          a file or a folder that is named so, from the top or from `crates`, is there
     `IsRightCall`, `HasRun`, ..         a name of this shape is declared in some crate
 
 It prints what is missing, and ends with 'N passed, M failed'.
@@ -30,7 +29,9 @@ FUNCTION = re.compile(r"^\s*(?:pub(?:\([^)]*\))? )?(?:const )?fn (\w+)", re.MULT
 CLAUSE = re.compile(r"^\s*ensures (?:(\w+) )?\{", re.MULTILINE)
 PATH = re.compile(r"(?:[\w.-]+/)+[\w.-]*")
 SHAPE = re.compile(r"(?:[A-Z][a-z0-9]+){2,}")
-DECLARED = re.compile(r"^\s*(?:(?:pub|abbrev|unfoldable) )*(?:(?:data|record|module|struct|enum|trait) )?(\w+)\b", re.MULTILINE)
+DECLARED = re.compile(
+    r"^\s*(?:(?:pub|abbrev|unfoldable) )*(?:(?:data|record|module|struct|enum|trait) )?(\w+)\b", re.MULTILINE
+)
 TOPS = ("crates/", "checks/", "docs/", "completion/", "examples/", "python/", ".ci/")
 
 
@@ -60,7 +61,7 @@ def declares(place: str, name: str) -> bool:
     """Whether a file of definitions declares this name, or a file of code this type."""
     if place.endswith(".rt"):
         return re.search(rf"^pub (?:struct|enum|trait) {re.escape(name)}\b", text_of(place), re.MULTILINE) is not None
-    said = rf"^(?:(?:pub|abbrev|unfoldable) )*(?:(?:data|record|module) )?(?:\S+ )*?{re.escape(name)}(?: [^\n]*)? :"
+    said = rf"^\s*(?:(?:pub|abbrev|unfoldable|data|record) )+(?:[^\s(){{}}:]+ )*?{re.escape(name)}(?:\s|$)"
     return re.search(said, text_of(place), re.MULTILINE) is not None
 
 
