@@ -11,7 +11,8 @@ the pages that are named by a word that ends with `.md`. It needs no program. It
                                         declares one
     <!-- quotes FILE -->                the lines of the fenced block that follows stand in the file one after another;
                                         a line `..` stands for any lines
-    `crates/..`, `docs/..`, ..          a file or a folder that is named so, from the top or from `crates`, is there
+    `mk_plan/src/lib.rt`, ..            a file or a folder that is named so, from `crates`, is there; `run_paths.py` tries
+                                        those that are named from the top
     `IsRightCall`, `HasRun`, ..         a name of this shape is declared in some crate
 
 It prints what is missing, and ends with 'N passed, M failed'.
@@ -32,7 +33,6 @@ SHAPE = re.compile(r"(?:[A-Z][a-z0-9]+){2,}")
 DECLARED = re.compile(
     r"^\s*(?:(?:pub|abbrev|unfoldable) )*(?:(?:data|record|module|struct|enum|trait) )?(\w+)\b", re.MULTILINE
 )
-TOPS = ("crates/", "checks/", "docs/", "completion/", "examples/", "python/", ".ci/")
 
 
 @functools.lru_cache(maxsize=None)
@@ -130,13 +130,11 @@ def quotations(text: str) -> Iterator[tuple[str, bool]]:
 
 
 def paths(text: str) -> Iterator[tuple[str, bool]]:
-    """Each file and folder that a page names with a slash, with whether it is there."""
+    """Each file and folder of a crate that a page names, with whether it is there."""
     crates = {it.name + "/" for it in (ROOT / "crates").iterdir()}
     prose = re.sub(r"```.*?```", "", text, flags=re.DOTALL)
     for word in sorted({it for it in NAME.findall(prose) if PATH.fullmatch(it)}):
-        if word.startswith(TOPS):
-            yield f"the file {word}", (ROOT / word).exists()
-        elif word.startswith(tuple(crates)):
+        if word.startswith(tuple(crates)):
             yield f"the file crates/{word}", (ROOT / "crates" / word).exists()
 
 
