@@ -1,15 +1,18 @@
 #!/usr/bin/env python3
-"""Holds crates.txt to its layers, and the table of crates in docs/architecture.md to crates.txt.
+"""Holds crates.txt to its layers, and the two pages that name each crate to what is there.
 
-`run_layers.py [PROGRAM]` needs no program and runs none. It tries for each crate of crates.txt and each layer:
+`run_layers.py [PROGRAM]` needs no program and runs none. It tries:
 
 - the layers are numbered from 1 on, in order, each with a crate;
 - each folder of crates/ has one line, and each line has its folder;
 - a crate stands only on crates that have their lines above its own, so in its own layer or a lower one;
-- nothing stands on a crate of the last layer, which has what tests alone need, but crates of this layer;
-- the comment `for proofs alone: ..` behind a crate's line names just the crates of this repository that stand in the
+- nothing stands on a crate of the last layer, which is for tests, except crates of this layer;
+- the comment `only for proofs: ..` after a crate's line names just the crates of this repository that stand in the
   line and that neither the crate's code nor its clauses and definitions name;
-- each crate says in its first lines what it is for, and the table of crates is the one that these lines make.
+- each crate says in its first lines what it is for, and the table of crates in docs/architecture.md is the one that
+  these lines make;
+- docs/edits.md has just the crates with edits, each with as many rows as it has edits, and names each other crate
+  among those without.
 
 It prints what fails, and ends with 'N passed, M failed'. `run_layers.py --marks` prints crates.txt with the comments
 that are right.
@@ -17,6 +20,7 @@ that are right.
 
 from __future__ import annotations
 
+import collections
 import pathlib
 import re
 import sys
@@ -24,7 +28,8 @@ import sys
 sys.path.insert(0, str(pathlib.Path(__file__).resolve().parents[1] / "tools"))
 from crate_table import PAGE, ROOT, Crate, Plan, head_of, parts_of, read_plan, table  # noqa: E402
 
-MARK = "for proofs alone:"
+MARK = "only for proofs:"
+EDITS = ROOT / "docs" / "edits.md"
 # a module of a crate, as definitions and clauses name it, and a crate as code names it
 MODULE = re.compile(r"\bRattle\.(\w+)\.")
 PATH = re.compile(r"(?<![\w.:])([a-z]\w*)::")
@@ -77,7 +82,7 @@ def faults_of_places(plan: Plan, last: int) -> dict[str, list[str]]:
             if other in layers and other not in above:
                 mine.append(f"it stands on {other}, whose line isn't above its own")
             elif layers.get(other) == last and crate.layer != last:
-                mine.append(f"it stands on {other}, which is for tests alone")
+                mine.append(f"it stands on {other}, which is for tests")
         above.add(crate.name)
     return faults
 
@@ -100,6 +105,33 @@ def faults_of_page(plan: Plan) -> list[str]:
     return ["docs/architecture.md: the table of crates is stale: call checks/tools/crate_table.py --write"]
 
 
+def faults_of_edits(plan: Plan) -> list[str]:
+    """Returns what is wrong with the page of edits."""
+    page, _, rest = EDITS.read_text(encoding="utf-8").partition("## Crates without edits")
+    real = collections.Counter(it.parts[-3] for it in (ROOT / "crates").glob("*/must-fail/*.edit"))
+    rows: collections.Counter[str] = collections.Counter()
+    told: dict[str, int] = {}
+    crate = ""
+    for line in page.splitlines():
+        head = re.match(r"\| \*\*`(\w+)`\*\*, (\d+) \|", line)
+        if head:
+            crate = head[1]
+            told[crate] = int(head[2])
+        elif line.startswith("| ") and not line.startswith("| What"):
+            rows[crate] += 1
+    faults = [
+        f"{it}: {told.get(it, 0)} edits by its head, {rows[it]} rows, {real[it]} edits in its folder"
+        for it in sorted({*told, *real})
+        if not told.get(it, 0) == rows[it] == real[it]
+    ]
+    if f"There are {sum(real.values())} edits in {len(real)} crates" not in page:
+        faults.append(f"it should say that there are {sum(real.values())} edits in {len(real)} crates")
+    for it in plan.crates:
+        if it.name not in real and f"`{it.name}`" not in rest and not it.name.endswith("_trials"):
+            faults.append(f"{it.name} isn't named among the crates without edits")
+    return [f"docs/edits.md: {it}" for it in faults]
+
+
 def marked(plan: Plan) -> str:
     """Returns crates.txt with the comments that are right."""
     own = {it.name for it in plan.crates}
@@ -118,8 +150,9 @@ def main() -> int:
         print(marked(plan), end="")
         return 0
     own = {it.name for it in plan.crates}
-    faults = faults_of_layers(plan) + faults_of_folders(plan) + faults_of_page(plan)
-    passed = len(plan.layers) + 2 - len(faults)
+    groups = [faults_of_layers(plan), faults_of_folders(plan), faults_of_page(plan), faults_of_edits(plan)]
+    faults = [it for group in groups for it in group]
+    passed = sum(not group for group in groups)
     places = faults_of_places(plan, len(plan.layers))
     for crate in plan.crates:
         mine = places[crate.name]
