@@ -5,7 +5,7 @@
 
 It counts crates, the words and long sentences of each document, long functions, functions of many parameters, names
 that two crates export, repeats in code, long lines of definitions and proofs in the files that came after COMMIT, and
-the definitions that the contract of `program` needs. `--all` prints also the places behind each number. It reads the
+the definitions that the contract of `program` needs. `--all` prints also the places of each number. It reads the
 sources as text: numbers are good to a few in a hundred. It is no gate, and ends with 0.
 """
 
@@ -393,7 +393,7 @@ def all_numbers(since: str) -> Iterator[Number]:
 
 def main() -> int:
     words = argparse.ArgumentParser(description="Prints how large and how plain the repository is.")
-    words.add_argument("--all", action="store_true", help="print also the places behind each number")
+    words.add_argument("--all", action="store_true", help="print also the places of each number")
     words.add_argument("--since", default=SINCE, metavar="COMMIT", help="files that came after this commit count as new")
     given = words.parse_args()
     print(f"{'number':>7}  {'goal':>5}")
