@@ -11,6 +11,7 @@
   line and that neither the crate's code nor its clauses and definitions name;
 - each crate says in its first lines what it is for, and the table of crates in docs/architecture.md is the one that
   these lines make;
+- in the drawings of that page, and in the longest chain that it names, a crate stands on the next one further in;
 - docs/edits.md has just the crates with edits, each with as many rows as it has edits, and names each other crate
   among those without.
 
@@ -105,6 +106,42 @@ def faults_of_page(plan: Plan) -> list[str]:
     return ["docs/architecture.md: the table of crates is stale: call checks/tools/crate_table.py --write"]
 
 
+def drawn(page: str) -> list[tuple[str, str]]:
+    """Returns the edges that the drawings of a page show: a crate, and one that is drawn right below and further in."""
+    edges = []
+    for drawing in re.findall(r"^```\n(.*?)^```", page, re.DOTALL | re.MULTILINE):
+        above: list[str] = []
+        for line in drawing.splitlines():
+            row = re.match(r"([│├└─ ]*)(m[ko]\w+)", line)
+            if row:
+                above = above[: len(row[1]) // 4]
+                edges += [(above[-1], row[2])] if above else []
+                above.append(row[2])
+    return edges
+
+
+def heights(plan: Plan) -> dict[str, int]:
+    """Returns for each crate how many crates the longest chain has from it downwards."""
+    found: dict[str, int] = {}
+    for crate in plan.crates:
+        found[crate.name] = 1 + max((found[it] for it in crate.below if it in found), default=0)
+    return found
+
+
+def faults_of_map(plan: Plan) -> list[str]:
+    """Returns what is wrong with the drawings of crates and with the longest chain that the page names."""
+    page = PAGE.read_text(encoding="utf-8")
+    below = {it.name: it.below for it in plan.crates}
+    chain = re.search(r"The longest chains .*? have (\d+) crates\. One is ([^.]*)\.", page)
+    names = re.findall(r"`(\w+)`", chain[2]) if chain else []
+    edges = [*drawn(page), *zip(names, names[1:])]
+    faults = [f"{one} doesn't stand on {other}" for one, other in edges if other not in below.get(one, [])]
+    most = max(heights(plan).values(), default=0)
+    if not chain or not int(chain[1]) == len(names) == most:
+        faults.append(f"the longest chain has {most} crates, and {len(names)} are named")
+    return [f"docs/architecture.md: {it}" for it in faults + ([] if drawn(page) else ["it has no drawing"])]
+
+
 def faults_of_edits(plan: Plan) -> list[str]:
     """Returns what is wrong with the page of edits."""
     page, _, rest = EDITS.read_text(encoding="utf-8").partition("## Crates without edits")
@@ -150,7 +187,8 @@ def main() -> int:
         print(marked(plan), end="")
         return 0
     own = {it.name for it in plan.crates}
-    groups = [faults_of_layers(plan), faults_of_folders(plan), faults_of_page(plan), faults_of_edits(plan)]
+    groups = [faults_of_layers(plan), faults_of_folders(plan), faults_of_page(plan), faults_of_map(plan)]
+    groups.append(faults_of_edits(plan))
     faults = [it for group in groups for it in group]
     passed = sum(not group for group in groups)
     places = faults_of_places(plan, len(plan.layers))
