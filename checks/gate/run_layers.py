@@ -26,6 +26,7 @@ import pathlib
 import re
 import sys
 
+sys.dont_write_bytecode = True
 sys.path.insert(0, str(pathlib.Path(__file__).resolve().parents[1] / "tools"))
 from crate_table import PAGE, ROOT, Crate, Plan, head_of, parts_of, read_plan, table  # noqa: E402
 
@@ -138,7 +139,8 @@ def faults_of_map(plan: Plan) -> list[str]:
     faults = [f"{one} doesn't stand on {other}" for one, other in edges if other not in below.get(one, [])]
     most = max(heights(plan).values(), default=0)
     if not chain or not int(chain[1]) == len(names) == most:
-        faults.append(f"the longest chain has {most} crates, and {len(names)} are named")
+        told = chain[1] if chain else "nothing"
+        faults.append(f"the longest chain has {most} crates; the page says {told} and names {len(names)}")
     return [f"docs/architecture.md: {it}" for it in faults + ([] if drawn(page) else ["it has no drawing"])]
 
 

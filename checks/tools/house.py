@@ -19,6 +19,7 @@ import subprocess
 import sys
 from typing import Iterator, NamedTuple, Optional
 
+sys.dont_write_bytecode = True
 sys.path.insert(0, str(pathlib.Path(__file__).resolve().parent))
 from crate_table import ROOT, read_plan  # noqa: E402
 
