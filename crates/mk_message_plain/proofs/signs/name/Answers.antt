@@ -1,0 +1,16 @@
+use Rattle.std.proofs.Common.{rules, ◌≡◌, ◌<◌, ◌≤◌, ◌+◌, ◌^◌, ◌++◌, ◌∷◌, [], true, length, take, IfSome, decimal, ℕ, ◌-◌, ◌*◌, ◌/◌, ◌%◌, Bool, false, nat_eq, nat_lt, List, slice_index_or, slice_set, bit_and, bit_or, Fits, w8, w32, w64, Bor, MutBor}
+use Rattle.std.specs.Fmt.{signed_decimal}
+use Rattle.std.specs.List.{list_all}
+use Rattle.std.specs.Str.{IsUtf8}
+use Rattle.mk_base.specs.Texts.{quoted}
+use Rattle.mk_base.specs.Trees.{in_range}
+use Rattle.mk_message_plain.specs.inner.Signs.{is_free}
+use Rattle.mk_message_plain.proofs.signs.name.Goals as goal
+
+-- src/signs.rt:110:1
+pub returns-clause-text : goal.returns-clause-text
+returns-clause-text c = ?
+
+-- src/signs.rt:110:1
+pub returns-clause-utf8 : goal.returns-clause-utf8
+returns-clause-utf8 c = ?
