@@ -6,10 +6,20 @@ use Rattle.std.proofs.lemmas.Fmt.{decimal_step, decimal_digit}
 use Rattle.std.proofs.lemmas.List.{take-append-drop}
 use Rattle.std.proofs.lemmas.Str.{IsUtf8-append, IsUtf8-nil, IsUtf8-from_ascii}
 use Rattle.std.specs.List.{list_all}
-use Rattle.std.specs.Prelude.{IsUtf8, slice_index}
+use Rattle.std.specs.Prelude.{IsUtf8, slice_index, Option, Some, None, IfSome}
 use Rattle.mk_base.specs.Texts.{escaped, quoted}
 use Rattle.mk_base.proofs.Bools.{first_holds, second_holds}
 use Rattle.mk_message_plain.specs.inner.Signs.{is_free}
+
+-- ---- what is there, if anything
+
+pub if_some : {A : Type 0} {X Y : A → Type 0} (o : Option A) → ((a : A) → X a → Y a) → IfSome o X → IfSome o Y
+if_some (Some a) f x = f a x
+if_some None f x = tt
+
+pub if_both : {A : Type 0} {X Y Z : A → Type 0} (o : Option A) → ((a : A) → X a → Y a → Z a) → IfSome o X → IfSome o Y → IfSome o Z
+if_both (Some a) f x y = f a x y
+if_both None f x y = tt
 
 -- ---- digits
 

@@ -1,26 +1,41 @@
 -- Members found one after another, and the object that they make.
-use Rattle.std.proofs.Common.{◌≡◌, inl, inr, ℕ, zero, suc, pred, max, ◌≤◌, ◌++◌, ◌&&◌, Bool, true, false, true≢false, List, [], ◌∷◌, map, codes, Less, refl, sym, ap, ◌∙◌, subst, arith, append_assoc, append-nil}
+use Rattle.std.proofs.Common.{◌≡◌, inl, inr, ℕ, ℤ, pos, negsuc, zero, suc, pred, max, ◌<◌, ◌≤◌, ◌^◌, ◌++◌, length, ◌&&◌, Bool, true, false, true≢false, List, [], ◌∷◌, map, codes, Less, refl, sym, ap, ◌∙◌, subst, arith, append_assoc, append-nil}
+use mir.Val.{to_z, of_z}
 use Rattle.std.proofs.lemmas.Bool.{and_from}
 use Rattle.std.proofs.lemmas.Cmp.{nat_list_cmp_total}
+use Rattle.std.proofs.lemmas.Int.{ints}
+use Rattle.std.proofs.lemmas.List.{length-append}
 use Rattle.std.proofs.lemmas.Str.{is_utf8-from_IsUtf8}
+use Rattle.std.specs.Fmt.{signed_decimal}
+use Rattle.std.specs.Int.{w128}
 use Rattle.std.specs.Ordering.{nat_cmp}
 use Rattle.std.specs.Cmp.Lexicographic.{slice_cmp}
 use Rattle.std.specs.List.{AllByRecursion, list_all, join_with_byte}
 use Rattle.std.specs.List.Sorted.{IsStrictlySortedBy}
 use Rattle.std.specs.Map.{keys_of}
-use Rattle.std.specs.Str.{is_utf8}
+use Rattle.std.specs.Str.{is_utf8, IsUtf8}
 use Rattle.mk_base.specs.declared.json.Json as tree
 use Rattle.mk_base.specs.declared.json.Json.{Json}
 use Rattle.mk_base.specs.Lists.{Each}
 use Rattle.mk_base.specs.Proper.{is_proper}
 use Rattle.mk_base.specs.Texts.{quoted, text_of}
-use Rattle.mk_base.specs.Trees.{is_in_range, nesting}
+use Rattle.mk_base.specs.Trees.{in_range, is_in_range, nesting}
 use Rattle.mk_base.proofs.Items.{each_behind, each_then, map_map}
-use Rattle.mk_json.proofs.Layers.{folded-Object}
+use Rattle.mk_json.proofs.Layers.{folded-Object, folded-Whole}
 use Rattle.mk_json.proofs.LevelTests.{range-Object, proper-Object}
-use Rattle.mk_json.proofs.OfOutlines.{names_rise-sorted}
+use Rattle.mk_json.proofs.OfOutlines.{names_rise-sorted, proper-Whole, range-Whole}
 use Rattle.mk_json.proofs.Values.{nesting-more_members}
-use Rattle.mk_message_plain.specs.inner.Members.{IsContent, member_text, led, IsMember, IsUpTo, Begins, Found, Closes}
+use Rattle.mk_message_plain.specs.inner.Members.{IsContent, member_text, led, ending, IsMember, IsUpTo, Begins, Found, Closes}
+
+-- ---- a number
+
+pub whole_content : (depth : ℕ) (z : ℤ) → in_range z ≡ true → IsContent depth (tree.Whole z)
+whole_content depth z h = record { proper = proper-Whole z; in_range = range-Whole z ∙ h; shallow = subst (λ n. n ≤ depth) (sym (folded-Whole _ _ z)) (omega arith) }
+
+-- a number in range is kept as it is
+pub whole_same : (z : ℤ) → in_range z ≡ true → to_z w128 (of_z w128 z) ≡ z
+whole_same (pos n) h = let small : n < 2 ^ 64 = grind (arith, ints) in omega (arith, ints, small)
+whole_same (negsuc n) h = let small : n < 2 ^ 63 = grind (arith, ints) in omega (arith, ints, small)
 
 -- ---- names in order
 
@@ -143,3 +158,42 @@ found_last depth text last rest name after ms t false e f b =
       sorted = sorted;
     }
 
+-- the same of members that are told by an equation
+pub goes_on : (depth : ℕ) (text last rest name after : List ℕ) (ms new : List (List ℕ × Json)) (t : Json) (more : Bool) → more ≡ true → Found depth text last ms rest → Begins depth last rest name t more after → new ≡ ms ++ (name, t) ∷ [] → Found depth text name new after
+goes_on depth text last rest name after ms new t more e f b is = subst (λ (l : List (List ℕ × Json)). Found depth text name l after) (sym is) (found_more depth text last rest name after ms t more e f b)
+
+pub closes : (depth : ℕ) (text last rest name after : List ℕ) (ms new : List (List ℕ × Json)) (t : Json) (more : Bool) → more ≡ false → Found depth text last ms rest → Begins depth last rest name t more after → new ≡ ms ++ (name, t) ∷ [] → Closes depth text new after
+closes depth text last rest name after ms new t more e f b is = subst (λ (l : List (List ℕ × Json)). Closes depth text l after) (sym is) (found_last depth text last rest name after ms t more e f b)
+
+-- ---- one member
+
+begins_text : (text name tail after : List ℕ) (t : Json) → text ≡ quoted name ++ 58 ∷ tail → tail ≡ text_of t ++ after → text ≡ member_text (name, t) ++ after
+begins_text text name tail after t is told =
+    is ∙ ap (λ l. quoted name ++ 58 ∷ l) told ∙ sym (append_assoc (quoted name ++ codes ":") (text_of t) after ∙ append_assoc (quoted name) (codes ":") (text_of t ++ after))
+
+pub attribute_begins : (last text name digits sign rest : List ℕ) (v : ℤ) (more : Bool) → text ≡ quoted name ++ 58 ∷ digits → digits ≡ signed_decimal v ++ sign → sign ≡ ending more ∷ rest → slice_cmp nat_cmp last name ≡ Less → IsUtf8 name → in_range v ≡ true
+    → Begins 0 last text name (tree.Whole v) more rest
+attribute_begins last text name digits sign rest v more is number end above utf8 ranges = record {
+  text = begins_text text name digits (ending more ∷ rest) (tree.Whole v) is (number ∙ ap (λ l. signed_decimal v ++ l) end ∙ ap (λ l. l ++ ending more ∷ rest) (sym (folded-Whole _ _ v)));
+  above = above;
+  utf8 = utf8;
+  content = whole_content 0 v ranges;
+}
+
+pub entity_begins : (last text name inner behind rest : List ℕ) (ms : List (List ℕ × Json)) (more : Bool) → text ≡ quoted name ++ 58 ∷ 123 ∷ inner → Closes 0 inner ms behind → behind ≡ ending more ∷ rest → slice_cmp nat_cmp last name ≡ Less → IsUtf8 name
+    → Begins 1 last text name (tree.Object ms) more rest
+entity_begins last text name inner behind rest ms more is object end above utf8 = record {
+  text = begins_text text name (123 ∷ inner) (ending more ∷ rest) (tree.Object ms) is (object.text ∙ ap (λ l. text_of (tree.Object ms) ++ l) end);
+  above = above;
+  utf8 = utf8;
+  content = object.content;
+}
+
+pub shorter : (depth : ℕ) (last text name rest : List ℕ) (t : Json) (more : Bool) → Begins depth last text name t more rest → length rest < length text
+shorter depth last text name rest t more b =
+    let whole = ap length b.text ∙ length-append (member_text (name, t)) (ending more ∷ rest) in
+    omega (arith, whole)
+
+-- a number as it was put
+pub put_same : (last rest name after : List ℕ) (ms new : List (List ℕ × Json)) (v : ℤ) (more : Bool) → Begins 0 last rest name (tree.Whole v) more after → new ≡ ms ++ (name, tree.Whole (to_z w128 (of_z w128 v))) ∷ [] → new ≡ ms ++ (name, tree.Whole v) ∷ []
+put_same last rest name after ms new v more b is = is ∙ ap (λ (z : ℤ). let m : List ℕ × Json = (name, tree.Whole z) in ms ++ m ∷ []) (whole_same v (sym (range-Whole v) ∙ b.content.in_range))

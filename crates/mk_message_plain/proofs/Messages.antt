@@ -1,12 +1,14 @@
 -- A message whose content is plain, and its payload.
-use Rattle.std.proofs.Common.{◌≡◌, ℕ, suc, pred, max, ◌<◌, ◌≤◌, ◌^◌, ◌++◌, ◌&&◌, ℤ, pos, true, List, [], ◌∷◌, codes, Ok, refl, sym, ap, ◌∙◌, subst, arith}
+use Rattle.std.proofs.Common.{◌≡◌, ℕ, suc, pred, max, ◌<◌, ◌≤◌, ◌^◌, ◌++◌, ◌&&◌, ℤ, pos, true, length, List, [], ◌∷◌, codes, Ok, refl, sym, ap, ◌∙◌, subst, arith, append-nil}
 use Rattle.std.proofs.lemmas.Bool.{and_from}
 use Rattle.std.proofs.lemmas.Fmt.{decimal_digit}
+use Rattle.std.specs.Fmt.{signed_decimal}
 use Rattle.mk_base.specs.declared.json.Json as tree
 use Rattle.mk_base.specs.declared.json.Json.{Json}
+use Rattle.mk_base.specs.Lists.{same_text}
 use Rattle.mk_base.specs.Proper.{is_proper}
 use Rattle.mk_base.specs.Texts.{text_of, list_text}
-use Rattle.mk_base.specs.Trees.{is_in_range, in_range, nesting}
+use Rattle.mk_base.specs.Trees.{is_in_range, nesting}
 use Rattle.mk_base.proofs.Counts.{pos_in_range, less_test}
 use Rattle.mk_json.proofs.Back.{parsed-text_of}
 use Rattle.mk_json.proofs.Layers.{folded-Null, folded-Whole, folded-List, folded-Object}
@@ -20,17 +22,28 @@ use Rattle.mk_plan.specs.declared.Message.TheVariants.{Success}
 use Rattle.mk_message_plain.specs.Plain.{IsWritten}
 use Rattle.mk_message_plain.specs.inner.Members.{IsContent}
 use Rattle.mk_message_plain.proofs.Members.{max_up_to}
+use Rattle.mk_base.proofs.Guessing.{text_is}
 
 -- ---- contents of one part
 
 pub null_content : (depth : ℕ) → IsContent depth tree.Null
 null_content depth = record { proper = proper-Null; in_range = folded-Null _ _; shallow = subst (λ n. n ≤ depth) (sym (folded-Null _ _)) (omega arith) }
 
-pub whole_content : (depth : ℕ) (z : ℤ) → in_range z ≡ true → IsContent depth (tree.Whole z)
-whole_content depth z h = record { proper = proper-Whole z; in_range = range-Whole z ∙ h; shallow = subst (λ n. n ≤ depth) (sym (folded-Whole _ _ z)) (omega arith) }
+pub empty_content : (ms : List (List ℕ × Json)) → ms ≡ [] → IsContent 2 (tree.Object ms)
+empty_content ms none = subst (λ (l : List (List ℕ × Json)). IsContent 2 (tree.Object l)) (sym none) (record { proper = proper-Object []; in_range = range-Object []; shallow = subst (λ n. n ≤ 2) (sym (folded-Object _ _ [])) (omega arith) })
 
-pub empty_content : IsContent 2 (tree.Object [])
-empty_content = record { proper = proper-Object []; in_range = range-Object []; shallow = subst (λ n. n ≤ 2) (sym (folded-Object _ _ [])) (omega arith) }
+pub null_text : (text : List ℕ) → same_text text (codes "null") ≡ true → text ≡ text_of tree.Null
+null_text text h = text_is text (codes "null") h ∙ sym (folded-Null _ _)
+
+pub empty_text : (rest : List ℕ) (ms : List (List ℕ × Json)) → same_text rest (codes "}") ≡ true → ms ≡ [] → 123 ∷ rest ≡ text_of (tree.Object ms)
+empty_text rest ms h none = ap (λ l. 123 ∷ l) (text_is rest (codes "}") h) ∙ sym (folded-Object _ _ []) ∙ ap (λ (l : List (List ℕ × Json)). text_of (tree.Object l)) (sym none)
+
+empty : (rest : List ℕ) → length rest < 1 → rest ≡ []
+empty [] h = refl
+empty (b ∷ rest) h = absurd (omega (arith, h))
+
+pub number_text : (text rest : List ℕ) (z : ℤ) → text ≡ signed_decimal z ++ rest → length rest < 1 → text ≡ text_of (tree.Whole z)
+number_text text rest z is none = is ∙ ap (λ l. signed_decimal z ++ l) (empty rest none) ∙ append-nil (signed_decimal z) ∙ sym (folded-Whole _ _ z)
 
 -- ---- the message
 

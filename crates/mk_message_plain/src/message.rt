@@ -1,5 +1,6 @@
 //! From a payload to the message that it plainly says.
 ghost use Rattle.std.specs.Prelude.{◌≡◌, ◌<◌, ◌^◌, ◌∷◌, true, Ok, IfOk, IfSome};
+ghost use Rattle.mk_base.specs.Lists.{same_text};
 ghost use Rattle.mk_base.specs.Texts.{text_of};
 ghost use Rattle.mk_message.specs.Messages.{message_of};
 ghost use Rattle.mk_message.specs.Written.{success_text};
@@ -49,11 +50,9 @@ fn content_of(alloc: Global, known: &mut Known, text: &[u8]) -> Result<Option<Js
     ensures text { IfOk result (λ o. IfSome o (λ t. text.now ≡ text_of t)) }
     ensures content { IfOk result (λ o. IfSome o (IsContent 2)) }
 {
-    match text {
-        [b'{', b'}'] => Ok(Some(Json::Object(Members::new(alloc)))),
-        [b'{', rest @ ..] => object_of(alloc, known, rest),
-        [b'n', b'u', b'l', b'l'] => Ok(Some(Json::Null)),
-        _ => Ok(number_of(text)),
+    match behind(text, b'{') {
+        Some(rest) => object_of(alloc, known, rest),
+        None => Ok(single_of(text)),
     }
 }
 
@@ -61,19 +60,32 @@ fn object_of(alloc: Global, known: &mut Known, rest: &[u8]) -> Result<Option<Jso
     ensures text { IfOk result (λ o. IfSome o (λ t. 123 ∷ rest.now ≡ text_of t)) }
     ensures content { IfOk result (λ o. IfSome o (IsContent 2)) }
 {
+    if is_text(rest, b"}") {
+        return Ok(Some(Json::Object(Members::new(alloc))));
+    }
     match entities(alloc, known, rest)? {
         Some(members) => Ok(Some(Json::Object(members))),
         None => Ok(None),
     }
 }
 
-fn number_of(text: &[u8]) -> Option<Json>
+// `null` or a number.
+fn single_of(text: &[u8]) -> Option<Json>
     ensures text { IfSome result (λ t. text.now ≡ text_of t) }
     ensures content { IfSome result (IsContent 2) }
 {
+    if is_text(text, b"null") {
+        return Some(Json::Null);
+    }
     let (number, rest) = signed(text)?;
     match rest {
         [] => Some(Json::Whole(number)),
         _ => None,
     }
+}
+
+fn is_text(text: &[u8], other: &[u8]) -> bool
+    ensures { result ≡ same_text text.now other.now }
+{
+    text == other
 }

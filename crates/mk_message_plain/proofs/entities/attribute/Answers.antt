@@ -1,14 +1,13 @@
-use Rattle.std.proofs.Common.{rules, ◌≡◌, ◌∷◌, ◌++◌, [], IfOk, IfSome, OnOk, ℕ, ◌+◌, ◌-◌, ◌*◌, ◌<◌, ◌≤◌, length, ◌/◌, ◌%◌, Bool, true, false, nat_eq, nat_lt, List, slice_index_or, slice_set, bit_and, bit_or, Fits, w8, w32, w64, Bor, MutBor}
-use Rattle.std.specs.Ordering.{nat_cmp, is_lt}
-use Rattle.std.specs.declared.cmp.Ordering.TheVariants.{Less}
-use Rattle.std.specs.Cmp.Lexicographic.{slice_cmp}
-use Rattle.std.specs.List.Sorted.{IsStrictlySortedBy}
-use Rattle.std.specs.Map.{keys_of}
-use Rattle.std.specs.Str.{IsUtf8}
-use Rattle.mk_base.specs.Texts.{quoted}
-use Rattle.mk_message_plain.specs.inner.Members.{ending, Begins, Closes}
+-- Answers to the goals of `entities::attribute` that the prover leaves.
+use Rattle.std.proofs.Common.{ℤ, sym, subst}
+use Rattle.mk_base.specs.declared.json.Json as tree
+use Rattle.mk_message_plain.specs.inner.Members.{Begins}
+use Rattle.mk_message_plain.proofs.Members.{attribute_begins, whole_same}
 use Rattle.mk_message_plain.proofs.entities.attribute.Goals as goal
 
--- src/entities.rt:93:1
 pub returns : goal.returns
-returns c = ?
+returns c =
+    let v = c.in_ok-value in
+    let begins = attribute_begins c.args.last.now c.args.text.now c.in_ok-name.name.now c.in_ok-name.digits.now v.sign.now c.in_ok-more.rest.now v.value c.in_ok-more.more c.in_ok-name.ensures.text v.ensures.text c.in_ok-more.ensures
+        c.in_ok-name.ensures.above c.in_ok-name.ensures.utf8 v.ensures.in_range in
+    subst (λ (z : ℤ). Begins 0 c.args.last.now c.args.text.now c.in_ok-name.name.now (tree.Whole z) c.in_ok-more.more c.in_ok-more.rest.now) (sym (whole_same v.value v.ensures.in_range)) begins

@@ -1,26 +1,23 @@
-use Rattle.std.proofs.Common.{rules, ◌≡◌, ◌∷◌, ◌++◌, [], IfOk, IfSome, OnOk, ℕ, ◌+◌, ◌-◌, ◌*◌, ◌<◌, ◌≤◌, length, ◌/◌, ◌%◌, Bool, true, false, nat_eq, nat_lt, List, slice_index_or, slice_set, bit_and, bit_or, Fits, w8, w32, w64, Bor, MutBor}
-use Rattle.std.specs.Ordering.{nat_cmp, is_lt}
-use Rattle.std.specs.declared.cmp.Ordering.TheVariants.{Less}
-use Rattle.std.specs.Cmp.Lexicographic.{slice_cmp}
-use Rattle.std.specs.List.Sorted.{IsStrictlySortedBy}
-use Rattle.std.specs.Map.{keys_of}
-use Rattle.std.specs.Str.{IsUtf8}
-use Rattle.mk_base.specs.Texts.{quoted}
-use Rattle.mk_message_plain.specs.inner.Members.{ending, Begins, Closes}
+-- Answers to the goals of `entities::attributes` that the prover leaves.
+use Rattle.std.proofs.Common.{[], ◌∙◌}
+use Rattle.mk_base.specs.declared.json.Json as tree
+use Rattle.mk_message_plain.proofs.Members.{found_first, goes_on, closes, put_same}
 use Rattle.mk_message_plain.proofs.entities.attributes.Goals as goal
 
--- src/entities.rt:80:5
 pub loop-name-init : goal.loop-name-init
-loop-name-init c = ?
+loop-name-init c = found_first 0 c.args.text.now [] c.new-found.result c.new-found.ensures
 
--- src/entities.rt:83:29
 pub in_order-requires : goal.in_order-requires
-in_order-requires c = ?
+in_order-requires c =
+    let l = c.loop-name in
+    (closes 0 c.args.text.now l.last.now l.rest.now c.in-Some.name.now c.in-Some.after.now l.found c.put.new.found (tree.Whole c.in-Some.value) c.in-Some.more c.if-not-more.true l.invariant c.in-Some.ensures (put_same l.last.now l.rest.now c.in-Some.name.now c.in-Some.after.now l.found c.put.new.found c.in-Some.value c.in-Some.more c.in-Some.ensures c.in_ok-put.ensures)).sorted
 
--- src/entities.rt:83:13
 pub returns-then-not-more : goal.returns-then-not-more
-returns-then-not-more c = ?
+returns-then-not-more c =
+    let l = c.loop-name in
+    closes 0 c.args.text.now l.last.now l.rest.now c.in-Some.name.now c.in-Some.after.now l.found c.in_order.result (tree.Whole c.in-Some.value) c.in-Some.more c.if-not-more.true l.invariant c.in-Some.ensures (c.in_order.ensures ∙ put_same l.last.now l.rest.now c.in-Some.name.now c.in-Some.after.now l.found c.put.new.found c.in-Some.value c.in-Some.more c.in-Some.ensures c.in_ok-put.ensures)
 
--- src/entities.rt:80:5
 pub loop-name-preserved : goal.loop-name-preserved
-loop-name-preserved c = ?
+loop-name-preserved c =
+    let l = c.loop-name in
+    goes_on 0 c.args.text.now l.last.now l.rest.now c.in-Some.name.now c.in-Some.after.now l.found c.put.new.found (tree.Whole c.in-Some.value) c.in-Some.more c.if-not-more.false l.invariant c.in-Some.ensures (put_same l.last.now l.rest.now c.in-Some.name.now c.in-Some.after.now l.found c.put.new.found c.in-Some.value c.in-Some.more c.in-Some.ensures c.in_ok-put.ensures)

@@ -1,16 +1,14 @@
-use Rattle.std.proofs.Common.{rules, ◌≡◌, ◌<◌, ◌^◌, ◌∷◌, true, Ok, IfOk, IfSome, ℕ, ◌+◌, ◌-◌, ◌*◌, ◌≤◌, length, ◌/◌, ◌%◌, Bool, false, nat_eq, nat_lt, List, [], ◌++◌, slice_index_or, slice_set, bit_and, bit_or, Fits, w8, w32, w64, Bor, MutBor}
-use Rattle.mk_base.specs.Texts.{text_of}
-use Rattle.mk_message.specs.Messages.{message_of}
-use Rattle.mk_message.specs.Written.{success_text}
-use Rattle.mk_plan.specs.Messages.{is_message_in_range}
-use Rattle.mk_message_plain.specs.Plain.{IsWritten}
-use Rattle.mk_message_plain.specs.inner.Members.{IsContent}
+-- Answers to the goals of `message::plain` that the prover leaves.
+use Rattle.std.proofs.Common.{arith}
+use Rattle.mk_message_plain.proofs.Messages.{told_back, written}
 use Rattle.mk_message_plain.proofs.message.plain.Goals as goal
 
--- src/message.rt:20:1
 pub returns-in-Some-2-clause-message : goal.returns-in-Some-2-clause-message
-returns-in-Some-2-clause-message c = ?
+returns-in-Some-2-clause-message c =
+    let small = c.in-Some.ensures.small in
+    told_back c.in-Some.id c.in-Some-2.content (rw c.in-Some-2.is at c.in_ok-content.ensures.content) c.args.payload.now c.in-Some.text.now (omega (arith, small)) c.in-Some.ensures.text (rw c.in-Some-2.is at c.in_ok-content.ensures.text)
 
--- src/message.rt:20:1
 pub returns-in-Some-2-clause-written : goal.returns-in-Some-2-clause-written
-returns-in-Some-2-clause-written c = ?
+returns-in-Some-2-clause-written c =
+    let small = c.in-Some.ensures.small in
+    written c.in-Some.id c.in-Some-2.content (rw c.in-Some-2.is at c.in_ok-content.ensures.content) c.args.payload.now c.in-Some.text.now (omega (arith, small)) c.in-Some.ensures.text (rw c.in-Some-2.is at c.in_ok-content.ensures.text)

@@ -1,12 +1,16 @@
-use Rattle.std.proofs.Common.{rules, ◌≡◌, ◌<◌, ◌≤◌, ◌+◌, ◌^◌, ◌++◌, ◌∷◌, [], true, length, take, IfSome, decimal, ℕ, ◌-◌, ◌*◌, ◌/◌, ◌%◌, Bool, false, nat_eq, nat_lt, List, slice_index_or, slice_set, bit_and, bit_or, Fits, w8, w32, w64, Bor, MutBor}
-use Rattle.std.specs.Fmt.{signed_decimal}
-use Rattle.std.specs.List.{list_all}
-use Rattle.std.specs.Str.{IsUtf8}
-use Rattle.mk_base.specs.Texts.{quoted}
-use Rattle.mk_base.specs.Trees.{in_range}
-use Rattle.mk_message_plain.specs.inner.Signs.{is_free}
+-- Answers to the goals of `signs::more_digits` that the prover leaves.
+use Rattle.std.proofs.Common.{arith}
+use Rattle.mk_message_plain.proofs.Bytes.{digits_more}
 use Rattle.mk_message_plain.proofs.signs.more_digits.Goals as goal
 
--- src/signs.rt:58:5
 pub loop-digit-preserved : goal.loop-digit-preserved
-loop-digit-preserved c = ?
+loop-digit-preserved c =
+    let l = c.loop-digit in
+    let some = l.invariant.above in
+    let small = c.in-Some.ensures.below in
+    let few = c.if-number-ge-MOST.false in
+    record {
+      text = digits_more c.args.first l.number c.in-Some.digit c.args.text.now l.rest.now c.in-Some.more.now l.invariant.text c.in-Some.ensures.text some small few;
+      above = omega (arith, some);
+      small = omega (arith, small, few);
+    }

@@ -1,16 +1,13 @@
-use Rattle.std.proofs.Common.{rules, ◌≡◌, ◌<◌, ◌≤◌, ◌+◌, ◌^◌, ◌++◌, ◌∷◌, [], true, length, take, IfSome, decimal, ℕ, ◌-◌, ◌*◌, ◌/◌, ◌%◌, Bool, false, nat_eq, nat_lt, List, slice_index_or, slice_set, bit_and, bit_or, Fits, w8, w32, w64, Bor, MutBor}
-use Rattle.std.specs.Fmt.{signed_decimal}
-use Rattle.std.specs.List.{list_all}
-use Rattle.std.specs.Str.{IsUtf8}
-use Rattle.mk_base.specs.Texts.{quoted}
-use Rattle.mk_base.specs.Trees.{in_range}
-use Rattle.mk_message_plain.specs.inner.Signs.{is_free}
+-- Answers to the goals of `signs::unsigned` that the prover leaves.
+use Rattle.std.proofs.Common.{◌++◌, decimal, ap, ◌∙◌}
+use Rattle.mk_message_plain.proofs.Bytes.{if_some, one_digit}
 use Rattle.mk_message_plain.proofs.signs.unsigned.Goals as goal
 
--- src/signs.rt:43:9
 pub returns-then-first-eq0-clause-text : goal.returns-then-first-eq0-clause-text
-returns-then-first-eq0-clause-text c = ?
+returns-then-first-eq0-clause-text c =
+    one_digit c.in_ok-first.first c.args.text.now c.in_ok-first.rest.now c.in_ok-first.ensures.below c.in_ok-first.ensures.text ∙ ap (λ n. decimal n ++ c.in_ok-first.rest.now) c.if-first-eq0.true
 
--- src/signs.rt:36:1
 pub returns-clause-text : goal.returns-clause-text
-returns-clause-text c = ?
+returns-clause-text c =
+    let first = one_digit c.in_ok-first.first c.args.text.now c.in_ok-first.rest.now c.in_ok-first.ensures.below c.in_ok-first.ensures.text in
+    if_some c.more_digits.result (λ p is. first ∙ is) c.more_digits.ensures.text
