@@ -1,5 +1,5 @@
 -- Members found one after another, and the object that they make.
-use Rattle.std.proofs.Common.{◌≡◌, inl, inr, ℕ, ℤ, pos, negsuc, zero, suc, pred, max, ◌<◌, ◌≤◌, ◌^◌, ◌++◌, length, ◌&&◌, Bool, true, false, true≢false, List, [], ◌∷◌, map, codes, Less, refl, sym, ap, ◌∙◌, subst, arith, append_assoc, append-nil}
+use Rattle.std.proofs.Common.{◌≡◌, inl, inr, ℕ, ℤ, pos, negsuc, zero, suc, pred, max, ◌<◌, ◌≤◌, ◌^◌, ◌++◌, length, Bool, true, false, true≢false, List, [], ◌∷◌, map, codes, Less, refl, sym, ap, ◌∙◌, subst, arith, append_assoc, append-nil}
 use mir.Val.{to_z, of_z}
 use Rattle.std.proofs.lemmas.Bool.{and_from}
 use Rattle.std.proofs.lemmas.Cmp.{nat_list_cmp_total}

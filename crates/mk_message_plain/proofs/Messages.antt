@@ -1,5 +1,5 @@
 -- A message whose content is plain, and its payload.
-use Rattle.std.proofs.Common.{◌≡◌, ℕ, suc, pred, max, ◌<◌, ◌≤◌, ◌^◌, ◌++◌, ◌&&◌, ℤ, pos, true, length, List, [], ◌∷◌, codes, Ok, refl, sym, ap, ◌∙◌, subst, arith, append-nil}
+use Rattle.std.proofs.Common.{◌≡◌, ℕ, ◌<◌, ◌≤◌, ◌^◌, ◌++◌, ℤ, pos, true, length, List, [], ◌∷◌, codes, Ok, refl, sym, ap, ◌∙◌, subst, arith, append-nil}
 use Rattle.std.proofs.lemmas.Bool.{and_from}
 use Rattle.std.proofs.lemmas.Fmt.{decimal_digit}
 use Rattle.std.specs.Fmt.{signed_decimal}

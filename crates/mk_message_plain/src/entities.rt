@@ -16,11 +16,7 @@ use std::alloc::Global;
 use std::cmp::Ordering;
 
 /// The objects of numbers, by their names, of a text that is an object's but for its first brace. `None` says nothing.
-pub fn entities(
-    alloc: Global,
-    known: &mut Known,
-    text: &[u8],
-) -> Result<Option<Members<Json>>, Mem>
+pub fn entities(alloc: Global, known: &mut Known, text: &[u8]) -> Result<Option<Members<Json>>, Mem>
     ensures { IfOk result (λ o. IfSome o (λ ms. Closes 1 text.now ms [])) }
 {
     let mut found = List::new(alloc);
@@ -39,7 +35,14 @@ pub fn entities(
             drop(attributes);
             break;
         };
-        put(alloc, known, &mut found, name, Json::Object(attributes), more)?;
+        put(
+            alloc,
+            known,
+            &mut found,
+            name,
+            Json::Object(attributes),
+            more,
+        )?;
         if !more {
             return Ok(whole(found, after));
         }

@@ -2,11 +2,10 @@
 ghost use Rattle.std.specs.Prelude.{◌≡◌, true};
 ghost use Rattle.mk_plan.specs.Messages.{is_message_in_range};
 
-use mk_base::Mem;
 use mk_message::{Scratch, read_in, write};
 use mk_message_plain::{Known, plain};
 use mk_plan::Message;
-use std::alloc::Global;
+use std::alloc::{AllocError, Global};
 
 const PLAIN: [&[u8]; 7] = [
     b"[1,0,null]",
@@ -41,6 +40,20 @@ const OTHER: [&[u8]; 17] = [
 // What stands in place of a byte.
 const BYTES: [u8; 12] = *b" 019\"\\-,:}]\x80";
 
+// What both readers keep from payload to payload.
+#[derive(Drop)]
+struct Rooms {
+    known: Known,
+    scratch: Scratch,
+}
+
+fn rooms(alloc: Global) -> Rooms {
+    Rooms {
+        known: Known::new(alloc),
+        scratch: Scratch::new(alloc),
+    }
+}
+
 // Both write the same.
 fn are_same(alloc: Global, one: &Message, other: &Message) -> bool
     requires one { is_message_in_range one.now ≡ true }
@@ -52,16 +65,105 @@ fn are_same(alloc: Global, one: &Message, other: &Message) -> bool
     }
 }
 
-fn is_read_so(
-    alloc: Global,
-    known: &mut Known,
-    scratch: &mut Scratch,
-    payload: &[u8],
-    is_plain: bool,
-) -> bool {
-    match (plain(alloc, known, payload), read_in(alloc, scratch, payload)) {
-        (Ok(Some(one)), Ok(other)) => is_plain && are_same(alloc, &one, &other),
-        (Ok(None), _) => !is_plain,
+// Whether the reader of plain payloads says nothing of a payload, or the same as the other reader.
+fn do_agree(alloc: Global, rooms: &mut Rooms, payload: &[u8]) -> bool {
+    match plain(alloc, &mut rooms.known, payload) {
+        Ok(Some(one)) => match read_in(alloc, &mut rooms.scratch, payload) {
+            Ok(other) => are_same(alloc, &one, &other),
+            Err(_) => false,
+        },
+        Ok(None) => true,
+        Err(_) => false,
+    }
+}
+
+fn is_plain(alloc: Global, rooms: &mut Rooms, payload: &[u8]) -> bool {
+    match plain(alloc, &mut rooms.known, payload) {
+        Ok(Some(_)) => true,
         _ => false,
     }
+}
+
+// How many of these payloads are plain.
+fn count_plain(alloc: Global, payloads: &[&[u8]]) -> usize {
+    let mut rooms = rooms(alloc);
+    let mut count: usize = 0;
+    for payload in payloads {
+        if is_plain(alloc, &mut rooms, payload) {
+            count = count.saturating_add(1);
+        }
+    }
+    count
+}
+
+#[test]
+fn plain_payloads_are_told_from_others(rt: HostRuntime) {
+    assert_eq!(rt; count_plain(rt.alloc(), &PLAIN), PLAIN.len());
+    assert_eq!(rt; count_plain(rt.alloc(), &OTHER), 0);
+}
+
+// The payload with another byte at a place, or with none there.
+fn changed(
+    alloc: Global,
+    payload: &[u8],
+    place: usize,
+    byte: Option<u8>,
+) -> Result<Vec<u8>, AllocError> {
+    let mut out = Vec::new(alloc);
+    for (i, kept) in payload.iter().enumerate() {
+        if i != place {
+            out.push(*kept)?;
+        } else if let Some(byte) = byte {
+            out.push(byte)?;
+        }
+    }
+    Ok(out)
+}
+
+fn agree_changed(
+    alloc: Global,
+    rooms: &mut Rooms,
+    payload: &[u8],
+    place: usize,
+    byte: Option<u8>,
+) -> bool {
+    match changed(alloc, payload, place, byte) {
+        Ok(other) => do_agree(alloc, rooms, other.as_slice()),
+        Err(_) => false,
+    }
+}
+
+fn agree_at(alloc: Global, rooms: &mut Rooms, payload: &[u8], place: usize) -> bool {
+    for byte in &BYTES {
+        if !agree_changed(alloc, rooms, payload, place, Some(*byte)) {
+            return false;
+        }
+    }
+    agree_changed(alloc, rooms, payload, place, None)
+}
+
+fn agree_nearby(alloc: Global, rooms: &mut Rooms, payload: &[u8]) -> bool {
+    for place in 0..payload.len() {
+        if !agree_at(alloc, rooms, payload, place) {
+            return false;
+        }
+    }
+    do_agree(alloc, rooms, payload)
+}
+
+// How many plain payloads are read as by the other reader, and so are they with any one byte changed or left out; up to
+// the first that isn't.
+fn count_agreeing(alloc: Global) -> usize {
+    let mut rooms = rooms(alloc);
+    for (place, payload) in PLAIN.iter().enumerate() {
+        if !agree_nearby(alloc, &mut rooms, payload) {
+            return place;
+        }
+    }
+    PLAIN.len()
+}
+
+#[test]
+fn both_readers_say_the_same_of_what_is_nearly_plain(rt: HostRuntime) {
+    assert_eq!(rt; count_agreeing(rt.alloc()), PLAIN.len());
 }

@@ -76,13 +76,7 @@ pub fn plain_asked(plan: &Plan, before: u64, text: &[u8]) -> Option<Asked>
 {
     let (number, time, tier, max_advance) = four_numbers(text)?;
     let sim = place_in(plan.sims.len(), number)?;
-    match step_asked(
-        before,
-        sim,
-        time as i128,
-        tier as i128,
-        max_advance as i128,
-    ) {
+    match step_asked(before, sim, time as i128, tier as i128, max_advance as i128) {
         Ok(asked) => Some(asked),
         Err(_) => None,
     }

@@ -95,7 +95,14 @@ fn take_addition(
         (plan_step (state_of progress.old) kind text.now) result progress.new }
 {
     let version = version_of(progress);
-    add_part(alloc, &mut rooms.scratch, &mut progress.plan, version, kind, text)?;
+    add_part(
+        alloc,
+        &mut rooms.scratch,
+        &mut progress.plan,
+        version,
+        kind,
+        text,
+    )?;
     progress.last = place(kind);
     Ok(false)
 }

@@ -9,5 +9,5 @@ pub returns : goal.returns
 returns c =
     let v = c.in_ok-value in
     let begins = attribute_begins c.args.last.now c.args.text.now c.in_ok-name.name.now c.in_ok-name.digits.now v.sign.now c.in_ok-more.rest.now v.value c.in_ok-more.more c.in_ok-name.ensures.text v.ensures.text c.in_ok-more.ensures
-        c.in_ok-name.ensures.above c.in_ok-name.ensures.utf8 v.ensures.in_range in
+    c.in_ok-name.ensures.above c.in_ok-name.ensures.utf8 v.ensures.in_range in
     subst (λ (z : ℤ). Begins 0 c.args.last.now c.args.text.now c.in_ok-name.name.now (tree.Whole z) c.in_ok-more.more c.in_ok-more.rest.now) (sym (whole_same v.value v.ensures.in_range)) begins
