@@ -1,11 +1,9 @@
 //! The reader of plain payloads beside the one of all payloads.
-ghost use Rattle.std.specs.Prelude.{◌≡◌, true};
-ghost use Rattle.mk_plan.specs.Messages.{is_message_in_range};
-
-use mk_message::{Scratch, read_in, write};
+use crate::changes::{BYTES, changed};
+use mk_message::{Scratch, read_in};
 use mk_message_plain::{Known, plain};
-use mk_plan::Message;
-use std::alloc::{AllocError, Global};
+use mk_record_compare::same_message;
+use std::alloc::Global;
 
 const PLAIN: [&[u8]; 7] = [
     b"[1,0,null]",
@@ -37,9 +35,6 @@ const OTHER: [&[u8]; 17] = [
     b"[1,0,{\"\xc3\xa9\":{\"b\":1}}]",
 ];
 
-// What stands in place of a byte.
-const BYTES: [u8; 12] = *b" 019\"\\-,:}]\x80";
-
 // What both readers keep from payload to payload.
 #[derive(Drop)]
 struct Rooms {
@@ -47,21 +42,10 @@ struct Rooms {
     scratch: Scratch,
 }
 
-fn rooms(alloc: Global) -> Rooms {
+fn empty_rooms(alloc: Global) -> Rooms {
     Rooms {
         known: Known::new(alloc),
         scratch: Scratch::new(alloc),
-    }
-}
-
-// Both write the same.
-fn are_same(alloc: Global, one: &Message, other: &Message) -> bool
-    requires one { is_message_in_range one.now ≡ true }
-    requires other { is_message_in_range other.now ≡ true }
-{
-    match (write(alloc, one), write(alloc, other)) {
-        (Ok(one), Ok(other)) => one.as_slice() == other.as_slice(),
-        _ => false,
     }
 }
 
@@ -69,7 +53,7 @@ fn are_same(alloc: Global, one: &Message, other: &Message) -> bool
 fn do_agree(alloc: Global, rooms: &mut Rooms, payload: &[u8]) -> bool {
     match plain(alloc, &mut rooms.known, payload) {
         Ok(Some(one)) => match read_in(alloc, &mut rooms.scratch, payload) {
-            Ok(other) => are_same(alloc, &one, &other),
+            Ok(other) => same_message(&one, &other),
             Err(_) => false,
         },
         Ok(None) => true,
@@ -86,7 +70,7 @@ fn is_plain(alloc: Global, rooms: &mut Rooms, payload: &[u8]) -> bool {
 
 // How many of these payloads are plain.
 fn count_plain(alloc: Global, payloads: &[&[u8]]) -> usize {
-    let mut rooms = rooms(alloc);
+    let mut rooms = empty_rooms(alloc);
     let mut count: usize = 0;
     for payload in payloads {
         if is_plain(alloc, &mut rooms, payload) {
@@ -100,24 +84,6 @@ fn count_plain(alloc: Global, payloads: &[&[u8]]) -> usize {
 fn plain_payloads_are_told_from_others(rt: HostRuntime) {
     assert_eq!(rt; count_plain(rt.alloc(), &PLAIN), PLAIN.len());
     assert_eq!(rt; count_plain(rt.alloc(), &OTHER), 0);
-}
-
-// The payload with another byte at a place, or with none there.
-fn changed(
-    alloc: Global,
-    payload: &[u8],
-    place: usize,
-    byte: Option<u8>,
-) -> Result<Vec<u8>, AllocError> {
-    let mut out = Vec::new(alloc);
-    for (i, kept) in payload.iter().enumerate() {
-        if i != place {
-            out.push(*kept)?;
-        } else if let Some(byte) = byte {
-            out.push(byte)?;
-        }
-    }
-    Ok(out)
 }
 
 fn agree_changed(
@@ -154,7 +120,7 @@ fn agree_nearby(alloc: Global, rooms: &mut Rooms, payload: &[u8]) -> bool {
 // How many plain payloads are read as by the other reader, and so are they with any one byte changed or left out; up to
 // the first that isn't.
 fn count_agreeing(alloc: Global) -> usize {
-    let mut rooms = rooms(alloc);
+    let mut rooms = empty_rooms(alloc);
     for (place, payload) in PLAIN.iter().enumerate() {
         if !agree_nearby(alloc, &mut rooms, payload) {
             return place;
