@@ -5,3 +5,4 @@ pub mod Ranges
 pub mod Rows
 pub mod Sound
 pub mod Splitting
+mod PlainLines

@@ -3,3 +3,4 @@ pub mod Faults
 pub mod Lines
 pub mod Seen
 pub mod Steps
+pub mod PlainLines

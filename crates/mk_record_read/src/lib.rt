@@ -6,7 +6,9 @@ mod fields;
 mod kinds;
 mod lines;
 mod parts;
+mod plainly;
 mod read;
+mod rooms;
 mod saved;
 
 pub use faults::RecordFault;

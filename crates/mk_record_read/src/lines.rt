@@ -604,7 +604,7 @@ fn asked_of_fields(
     step_asked(before, sim, time, tier, max_advance)
 }
 
-fn step_asked(
+pub fn step_asked(
     before: u64,
     sim: u32,
     time: i128,

@@ -20,6 +20,8 @@ use crate::kinds::{LineKind, Version};
 use crate::lines::{
     add_async, add_conn, add_entity, add_model, add_run, add_sim, arrival_of, asked_of,
 };
+use crate::plainly::{plain_arrival, plain_asked};
+use crate::rooms::Rooms;
 use crate::saved::{Arrival, Asked};
 use itoa::Buffer;
 use mk_base::{Json, are_digits, is_digit};
@@ -86,6 +88,25 @@ fn add_items(
 
 pub fn read_arrival(
     alloc: Global,
+    rooms: &mut Rooms,
+    plan: &Plan,
+    text: &[u8],
+) -> Result<Arrival, LineFault>
+    ensures ok { IfOk result
+        (λ a. tested misformed (items_read text.now) (arrival_in plan.now) ≡ Ok (came a)) }
+    ensures err { IfErr result
+        (IsFaultOf (tested misformed (items_read text.now) (arrival_in plan.now))) }
+    ensures known { IfOk result (λ a. IsKnown plan.now (came a)) }
+{
+    match plain_arrival(alloc, &mut rooms.known, plan, text)? {
+        Some(arrival) => Ok(arrival),
+        None => parsed_arrival(alloc, &mut rooms.scratch, plan, text),
+    }
+}
+
+// The same of a line that may be written in any way.
+fn parsed_arrival(
+    alloc: Global,
     scratch: &mut Scratch,
     plan: &Plan,
     text: &[u8],
@@ -101,6 +122,25 @@ pub fn read_arrival(
 }
 
 pub fn read_asked(
+    alloc: Global,
+    scratch: &mut Scratch,
+    plan: &Plan,
+    before: u64,
+    text: &[u8],
+) -> Result<Asked, LineFault>
+    ensures ok { IfOk result
+        (λ a. tested misformed (items_read text.now) (asked_in plan.now before) ≡ Ok a) }
+    ensures err { IfErr result
+        (IsFaultOf (tested misformed (items_read text.now) (asked_in plan.now before))) }
+{
+    match plain_asked(plan, before, text) {
+        Some(asked) => Ok(asked),
+        None => parsed_asked(alloc, scratch, plan, before, text),
+    }
+}
+
+// The same of a line that may be written in any way.
+fn parsed_asked(
     alloc: Global,
     scratch: &mut Scratch,
     plan: &Plan,

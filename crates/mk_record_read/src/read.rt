@@ -13,9 +13,9 @@ use crate::faults::{INVALID, LineFault, MISFORMED, RecordFault};
 use crate::fields::is_word;
 use crate::kinds::{LineKind, Version, ends_plan, kind_of_word, may_stand, place};
 use crate::parts::{add_part, read_arrival, read_asked, read_end};
+use crate::rooms::Rooms;
 use crate::saved::{Asked, Progress, Saved};
 use mk_base::{List, Mem};
-use mk_json::Scratch;
 use mk_plan::Plan;
 use mk_plan_check::{PlanFault, check_plan};
 use std::alloc::Global;
@@ -39,7 +39,7 @@ fn test_plan(alloc: Global, plan: &Plan) -> Result<(), LineFault>
 // Adds a line of a kind that may stand here; whether it ends the record.
 fn take_part(
     alloc: Global,
-    scratch: &mut Scratch,
+    rooms: &mut Rooms,
     progress: &mut Progress,
     kind: LineKind,
     text: &[u8],
@@ -52,14 +52,14 @@ fn take_part(
 {
     match kind {
         LineKind::Head => take_head(alloc, progress, text),
-        LineKind::Run => take_addition(alloc, scratch, progress, kind, text),
-        LineKind::Sim => take_addition(alloc, scratch, progress, kind, text),
-        LineKind::Model => take_addition(alloc, scratch, progress, kind, text),
-        LineKind::Entity => take_addition(alloc, scratch, progress, kind, text),
-        LineKind::Conn => take_addition(alloc, scratch, progress, kind, text),
-        LineKind::Async => take_addition(alloc, scratch, progress, kind, text),
-        LineKind::Ask => take_ask(alloc, scratch, progress, text),
-        LineKind::Got => take_message(alloc, scratch, progress, text),
+        LineKind::Run => take_addition(alloc, rooms, progress, kind, text),
+        LineKind::Sim => take_addition(alloc, rooms, progress, kind, text),
+        LineKind::Model => take_addition(alloc, rooms, progress, kind, text),
+        LineKind::Entity => take_addition(alloc, rooms, progress, kind, text),
+        LineKind::Conn => take_addition(alloc, rooms, progress, kind, text),
+        LineKind::Async => take_addition(alloc, rooms, progress, kind, text),
+        LineKind::Ask => take_ask(alloc, rooms, progress, text),
+        LineKind::Got => take_message(alloc, rooms, progress, text),
         LineKind::End => take_end(progress, text),
     }
 }
@@ -83,7 +83,7 @@ fn take_head(alloc: Global, progress: &mut Progress, text: &[u8]) -> Result<bool
 
 fn take_addition(
     alloc: Global,
-    scratch: &mut Scratch,
+    rooms: &mut Rooms,
     progress: &mut Progress,
     kind: LineKind,
     text: &[u8],
@@ -95,14 +95,21 @@ fn take_addition(
         (plan_step (state_of progress.old) kind text.now) result progress.new }
 {
     let version = version_of(progress);
-    add_part(alloc, scratch, &mut progress.plan, version, kind, text)?;
+    add_part(
+        alloc,
+        &mut rooms.scratch,
+        &mut progress.plan,
+        version,
+        kind,
+        text,
+    )?;
     progress.last = place(kind);
     Ok(false)
 }
 
 fn take_message(
     alloc: Global,
-    scratch: &mut Scratch,
+    rooms: &mut Rooms,
     progress: &mut Progress,
     text: &[u8],
 ) -> Result<bool, LineFault>
@@ -111,7 +118,7 @@ fn take_message(
     ensures { IsLineTaken progress.old
         (part_step (state_of progress.old) LineKind.Got text.now) result progress.new }
 {
-    let arrival = read_arrival(alloc, scratch, &progress.plan, text)?;
+    let arrival = read_arrival(alloc, rooms, &progress.plan, text)?;
     progress.arrivals.push(arrival)?;
     progress.last = place(LineKind::Got);
     Ok(false)
@@ -120,7 +127,7 @@ fn take_message(
 // Adds a step that was asked for; such lines stand in version 2 alone.
 fn take_ask(
     alloc: Global,
-    scratch: &mut Scratch,
+    rooms: &mut Rooms,
     progress: &mut Progress,
     text: &[u8],
 ) -> Result<bool, LineFault>
@@ -131,7 +138,7 @@ fn take_ask(
 {
     let asked = read_asked(
         alloc,
-        scratch,
+        &mut rooms.scratch,
         &progress.plan,
         progress.arrivals.len() as u64,
         text,
@@ -189,7 +196,7 @@ fn line_count(progress: &Progress) -> u128
 // Adds a line; whether it ends the record.
 fn take_line(
     alloc: Global,
-    scratch: &mut Scratch,
+    rooms: &mut Rooms,
     progress: &mut Progress,
     line: &[u8],
 ) -> Result<bool, LineFault>
@@ -201,12 +208,12 @@ fn take_line(
     let Some(kind) = kind_of_word(version_of(progress), word) else {
         return Err(MISFORMED);
     };
-    take_kind(alloc, scratch, progress, kind, text)
+    take_kind(alloc, rooms, progress, kind, text)
 }
 
 fn take_kind(
     alloc: Global,
-    scratch: &mut Scratch,
+    rooms: &mut Rooms,
     progress: &mut Progress,
     kind: LineKind,
     text: &[u8],
@@ -221,7 +228,7 @@ fn take_kind(
     if !may_stand(progress.last, kind) {
         return Err(MISFORMED);
     }
-    take_part(alloc, scratch, progress, kind, text)
+    take_part(alloc, rooms, progress, kind, text)
 }
 
 fn word_and_rest(line: &[u8]) -> (&[u8], &[u8])
@@ -276,11 +283,11 @@ fn read_lines(alloc: Global, progress: &mut Progress, bytes: &[u8]) -> Result<()
     ensures faulty { (l n : ℕ) → result ≡ Err (RecordFault.Line l n)
         → reading bytes.now ≡ Faulty l n }
 {
-    let mut scratch = Scratch::new(alloc);
+    let mut rooms = Rooms::new(alloc);
     let mut number: u64 = 1;
     let mut rest = bytes;
     while let Some((line, after)) = line_and_rest(rest) {
-        match take_line(alloc, &mut scratch, progress, line) {
+        match take_line(alloc, &mut rooms, progress, line) {
             Ok(false) => {}
             Ok(true) => return closed(number, after),
             Err(fault) => return Err(at_line(number, fault)),
