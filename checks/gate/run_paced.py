@@ -17,7 +17,7 @@ import tempfile
 import time
 from typing import Dict, List, NamedTuple
 
-CHECKS = pathlib.Path(__file__).resolve().parent
+ROOT = pathlib.Path(__file__).resolve().parents[2]
 NAMES = ("A", "B", "C", "D", "E")
 FACTOR = 10
 SIMULATOR = """[[sim]]
@@ -47,7 +47,7 @@ class Study:
 
     def __init__(self, program: str, path: pathlib.Path, until: int) -> None:
         self.program, self.path, self.until = program, path, until
-        for file in (CHECKS / "ticker.py", CHECKS.parent / "examples" / "api.py"):
+        for file in (ROOT / "checks" / "cases" / "simulators" / "ticker.py", ROOT / "examples" / "api.py"):
             shutil.copy(file, path)
 
     def scenario(self, sims: Dict[str, str]) -> str:

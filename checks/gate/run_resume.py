@@ -14,7 +14,7 @@ import sys
 import tempfile
 from typing import Dict, List, NamedTuple
 
-CHECKS = pathlib.Path(__file__).resolve().parent
+ROOT = pathlib.Path(__file__).resolve().parents[2]
 SCENARIO = """until = {until}
 [[sim]]
 name = "A"
@@ -56,7 +56,7 @@ class Study:
 
     def __init__(self, program: str, path: pathlib.Path, until: int) -> None:
         self.program, self.path, self.until = program, path, until
-        for file in (CHECKS / "walker.py", CHECKS.parent / "examples" / "api.py"):
+        for file in (ROOT / "checks" / "cases" / "simulators" / "walker.py", ROOT / "examples" / "api.py"):
             shutil.copy(file, path)
         self.whole = self.run("whole.record")
         self.record = self.saved("whole.record")

@@ -19,7 +19,7 @@ try:
 except ImportError:  # before Python 3.11
     tomllib = None  # type: ignore[assignment]
 
-TOP = pathlib.Path(__file__).resolve().parent.parent
+TOP = pathlib.Path(__file__).resolve().parents[2]
 SCHEMA = TOP / "docs" / "scenario.schema.json"
 NOTES = {"$schema", "title", "description", "default", "definitions"}
 TYPES: Dict[str, Callable[[Any], bool]] = {
@@ -155,7 +155,7 @@ def stored_text(case: Dict[str, Any], name: str) -> Optional[bytes]:
         return "".join(text * count for text, count in case["pieces"][name]).encode("utf-8")
     if name in case.get("files", {}):
         return case["files"][name].encode("utf-8")
-    file = TOP / case.get("at", "checks/cases") / name
+    file = TOP / case.get("at", "checks/cases/files") / name
     return file.read_bytes() if file.is_file() else None
 
 
@@ -163,7 +163,7 @@ def scenarios() -> Iterator[Tuple[str, bytes, str]]:
     """Gives each scenario: its name, its bytes, and the line that the program prints of it, empty for none."""
     for file in sorted((TOP / "examples").rglob("*.toml")):
         yield str(file.relative_to(TOP)), file.read_bytes(), ""
-    lines = (TOP / "checks" / "cases.jsonl").read_text(encoding="utf-8").splitlines()
+    lines = (TOP / "checks" / "cases" / "cases.jsonl").read_text(encoding="utf-8").splitlines()
     for number, line in enumerate(lines, 1):
         case = json.loads(line)
         if case["words"][:1] not in (["check"], ["run"]) or len(case["words"]) < 2:

@@ -14,7 +14,7 @@ import sys
 import tempfile
 from types import ModuleType
 
-ROOT = pathlib.Path(__file__).resolve().parent.parent
+ROOT = pathlib.Path(__file__).resolve().parents[2]
 # outputs of a later time, an event, rounds within a time
 SCENARIO = """until = 3
 sim = [

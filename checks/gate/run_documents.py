@@ -30,7 +30,8 @@ import sys
 import tempfile
 from typing import NamedTuple, Optional
 
-ROOT = pathlib.Path(__file__).resolve().parent.parent
+from common import ROOT, child_of
+
 # the documents, each with the folder in which its reader begins
 DOCUMENTS = {"README.md": ".", "docs/tutorial.md": ".", "docs/from-mosaik.md": "examples"}
 BUILDS = re.compile(r"(^|[\s;&|(])(rt|\.ci/run)([\s;&|)]|$)|\bcd\s+\S*crates\b", re.MULTILINE)
@@ -144,9 +145,9 @@ def main() -> int:
         room = pathlib.Path(text)
         (room / "bin").mkdir()
         (room / "bin" / "mosaikrun").symlink_to(program)
-        for child in (program.parent / "mk_child", program.parents[2] / "mk_child" / "out" / "mk_child"):
-            if child.is_file() and not (room / "bin" / "mk_child").exists():
-                (room / "bin" / "mk_child").symlink_to(child.resolve())
+        child = child_of(program)
+        if child is not None:
+            (room / "bin" / "mk_child").symlink_to(child.resolve())
         path = f"{room / 'bin'}{os.pathsep}{os.environ['PATH']}"
         for name in names:
             some = document(name, room, path, "--builds" in sys.argv)
