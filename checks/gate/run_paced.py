@@ -7,6 +7,7 @@ whether any step came before its moment; and it prints how late the steps came a
 machine and are judged by nobody. A simulator that is too slow has to end a run with `--strict`, with its line and with none of the
 five left behind, and changes nothing without. It ends with 'N passed, M failed'.
 """
+# alone: it measures time
 import os
 import pathlib
 import re
