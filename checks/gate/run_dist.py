@@ -3,6 +3,7 @@
 
 `run_dist.py PROGRAM` looks whether its checksum, its size and the glibc that it asks for are those of the page, whether
 it can be run, prints its usage and checks a study, and whether `dist/NOTICES` names each ported crate that it stands on.
+Where git has the commit of the page, and the sources here are those of the page, they have to be those of the commit.
 Where all of these hold, PROGRAM is compared with it byte by byte:
 
 - PROGRAM is the one that a gate makes, `crates/mosaikrun/out/mosaikrun`;
@@ -41,6 +42,21 @@ def runs() -> List[str]:
     return found + ([] if status == 0 and out.startswith("sims ") else [f"check of a study: {status} {out}{err}"])
 
 
+def of_commit(said: Dict[str, str]) -> List[str]:
+    """Says what is wrong with the commit that the page names, where the sources here are those of the page."""
+    commit = said.get("Commit of the sources", "")
+    crates = built.below((ROOT / "crates.txt").read_text(encoding="utf-8"))
+    places = [f"crates/{crate}/{part}" for crate in crates for part in built.PARTS]
+    try:
+        ran = subprocess.run(["git", "diff", "--quiet", commit, "--", *places], cwd=ROOT, capture_output=True, check=False)
+    except OSError:
+        # there is no git here
+        return []
+    is_same = built.sum_of_sources() == said.get("SHA-256 of the sources")
+    # another status: this is no checkout, or it hasn't the commit
+    return [f"commit {commit} has other sources than the page says"] if is_same and ran.returncode == 1 else []
+
+
 def is_whole(said: Dict[str, str], program: bytes) -> Dict[str, List[str]]:
     """Returns what is asked of the program of dist, with what is wrong of each."""
     sum_of, glibc = built.sum_of(program), built.oldest_glibc(program)
@@ -53,6 +69,7 @@ def is_whole(said: Dict[str, str], program: bytes) -> Dict[str, List[str]]:
     rows = [row for row in built.ROWS if row not in said]
     return {
         "the page": [f"dist/README.md has no row {row}" for row in rows],
+        "commit": of_commit(said),
         "checksum": [] if said.get("SHA-256") == sum_of else [f"its SHA-256 is {sum_of}"],
         "size": [] if said.get("Bytes") == str(len(program)) else [f"it has {len(program)} bytes"],
         "glibc": [] if said.get("Oldest glibc") == glibc else [f"it asks for glibc {glibc}"],
@@ -67,6 +84,8 @@ def differs(said: Dict[str, str], program: pathlib.Path) -> List[str]:
     kit = built.kit()
     if program != built.MADE:
         print(f"not compared: {program} isn't the program that a gate makes here")
+    elif kit is None:
+        print("not compared: there is no kit here")
     elif kit != said.get("Kit"):
         print(f"not compared: the kit here is {kit}, and dist is of {said.get('Kit')}")
     elif built.sum_of_sources() != said.get("SHA-256 of the sources"):

@@ -4,7 +4,8 @@
 `run_schema.py` needs no program. The schema has to have the keys and ranges of the table in docs/formats.md, and a
 description for each key; to accept each scenario of examples/ and each one of the stored cases that `mosaikrun check`
 accepts; and to refuse each one with a fault that a schema can see. Where the package `jsonschema` is there, it has to
-say the same of each scenario as the validator here. Prints what differs, and ends with 'N passed, M failed'.
+say the same of each scenario as the validator here. Before Python 3.11 the scenarios are left out, which it says. Prints
+what differs, and ends with 'N passed, M failed'.
 """
 
 import datetime
@@ -274,12 +275,12 @@ def check_table(schema: Dict[str, Any]) -> List[str]:
 
 def main() -> int:
     """Checks the schema by its keywords, by the table of keys and by each scenario."""
-    if tomllib is None:
-        print("tomllib isn't there: Python 3.11 or newer has it")
-        print("0 passed, 1 failed")
-        return 1
     schema = json.loads(SCHEMA.read_text(encoding="utf-8"))
-    results = check_keywords(schema) + check_table(schema) + check_scenarios(schema)
+    results = check_keywords(schema) + check_table(schema)
+    if tomllib is None:
+        print("left out: the scenarios, since tomllib isn't there (Python 3.11 or newer has it)")
+    else:
+        results += check_scenarios(schema)
     failed = [line for line in results if line]
     for line in failed:
         print(line)
