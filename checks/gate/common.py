@@ -1,9 +1,10 @@
-"""What several checks of this folder share: where the repository is, the program mk_child, and what still runs."""
+"""What checks of this folder share: where the repository is, the program mk_child, what still runs, the last line."""
 
 from __future__ import annotations
 
 import pathlib
-from typing import List, Optional
+import traceback
+from typing import Callable, List, Optional
 
 ROOT = pathlib.Path(__file__).resolve().parents[2]
 
@@ -30,3 +31,13 @@ def child_of(program: pathlib.Path) -> Optional[pathlib.Path]:
     made = pathlib.Path("mk_child", "out", "mk_child")
     places = [program.parent / "mk_child", *(above / made for above in list(program.parents)[2:3]), ROOT / "crates" / made]
     return next((place for place in places if place.is_file()), None)
+
+
+def status_of(main: Callable[[], int]) -> int:
+    """Returns the status of a check. One that ends by an exception has its last line too."""
+    try:
+        return main()
+    except Exception:
+        print(traceback.format_exc(), end="")
+        print("0 passed, 1 failed")
+        return 1

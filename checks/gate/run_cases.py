@@ -24,7 +24,7 @@ import sys
 import tempfile
 from typing import Any, Dict, Optional, Tuple
 
-from common import ROOT, child_of, left_behind
+from common import ROOT, child_of, left_behind, status_of
 
 CASES = ROOT / "checks" / "cases"
 FILES = CASES / "files"
@@ -92,4 +92,4 @@ def main() -> int:
     return 1 if failed or not kept else 0
 
 
-sys.exit(main())
+sys.exit(status_of(main))

@@ -22,7 +22,7 @@ import sys
 from typing import Dict, List, Tuple
 
 import built
-from common import ROOT
+from common import ROOT, status_of
 
 
 def called(*words: str) -> Tuple[int, str, str]:
@@ -115,4 +115,4 @@ def main() -> int:
 
 
 if __name__ == "__main__":
-    sys.exit(main())
+    sys.exit(status_of(main))

@@ -30,7 +30,7 @@ import sys
 import tempfile
 from typing import NamedTuple, Optional
 
-from common import ROOT, child_of
+from common import ROOT, child_of, status_of
 
 # the documents, each with the folder in which its reader begins
 DOCUMENTS = {"README.md": ".", "docs/tutorial.md": ".", "docs/from-mosaik.md": "examples"}
@@ -159,4 +159,4 @@ def main() -> int:
     return 1 if failed or not passed else 0
 
 
-sys.exit(main())
+sys.exit(status_of(main))

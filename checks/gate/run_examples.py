@@ -29,7 +29,7 @@ import sys
 import tempfile
 import time
 
-from common import ROOT, left_behind
+from common import ROOT, left_behind, status_of
 
 EXAMPLES, STORED = ROOT / "examples", ROOT / "checks" / "cases" / "examples"
 FIRST = re.compile(r"^# First, in another terminal: (.*)$", re.MULTILINE)
@@ -286,4 +286,4 @@ def main() -> int:
     return 1 if failed or not checks.cases else 0
 
 
-sys.exit(main())
+sys.exit(status_of(main))

@@ -18,7 +18,8 @@ import tempfile
 import time
 from typing import Dict, List, NamedTuple
 
-ROOT = pathlib.Path(__file__).resolve().parents[2]
+from common import ROOT, status_of
+
 NAMES = ("A", "B", "C", "D", "E")
 FACTOR = 10
 SIMULATOR = """[[sim]]
@@ -166,4 +167,4 @@ def main() -> int:
 
 
 if __name__ == "__main__":
-    sys.exit(main())
+    sys.exit(status_of(main))

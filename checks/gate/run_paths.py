@@ -15,7 +15,7 @@ import re
 import sys
 from typing import Iterator, List, Tuple
 
-from common import ROOT
+from common import ROOT, status_of
 
 PAGES = ("README.md", "CONTRIBUTING.md", "docs/*.md", "checks/README.md", "dist/README.md")
 SPAN = re.compile(r"(`+)(.+?)\1", re.DOTALL)
@@ -86,4 +86,4 @@ def main() -> int:
 
 
 if __name__ == "__main__":
-    sys.exit(main())
+    sys.exit(status_of(main))

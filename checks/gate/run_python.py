@@ -17,7 +17,7 @@ import sys
 import tempfile
 from typing import Tuple
 
-from common import ROOT
+from common import ROOT, status_of
 
 SECONDS = 300
 RAN = re.compile(r"^Ran (\d+) tests? in ", re.MULTILINE)
@@ -67,4 +67,4 @@ def main() -> int:
     return 1 if failed or not passed else 0
 
 
-sys.exit(main())
+sys.exit(status_of(main))

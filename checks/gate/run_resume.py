@@ -14,7 +14,8 @@ import sys
 import tempfile
 from typing import Dict, List, NamedTuple
 
-ROOT = pathlib.Path(__file__).resolve().parents[2]
+from common import ROOT, status_of
+
 SCENARIO = """until = {until}
 [[sim]]
 name = "A"
@@ -169,4 +170,4 @@ def main() -> int:
 
 
 if __name__ == "__main__":
-    sys.exit(main())
+    sys.exit(status_of(main))
