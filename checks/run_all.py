@@ -55,7 +55,8 @@ class Checks:
         began = time.monotonic()
         words = [sys.executable, str(script), str(self.program)]
         pipes: Dict[str, Any] = {"stdin": subprocess.DEVNULL, "stdout": subprocess.PIPE, "stderr": subprocess.STDOUT}
-        with subprocess.Popen(words, cwd=ROOT, start_new_session=True, **pipes) as ran:
+        environment = {**os.environ, "PYTHONDONTWRITEBYTECODE": "1"}
+        with subprocess.Popen(words, cwd=ROOT, env=environment, start_new_session=True, **pipes) as ran:
             self.running.add(ran)
             if self.is_over:
                 killed(ran)

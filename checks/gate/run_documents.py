@@ -115,7 +115,7 @@ def compared(block: Block) -> str:
 def document(name: str, room: pathlib.Path, path: str, builds: bool) -> tuple[int, int]:
     """Tries a document: answers how many of its blocks passed, and how many failed."""
     root = room / "root"
-    left = [".git", "out"] + ([] if builds else ["crates"])
+    left = [".git", "out", "__pycache__"] + ([] if builds else ["crates"])
     shutil.copytree(ROOT, root, ignore=shutil.ignore_patterns(*left), symlinks=True)
     (root / "dist").mkdir(exist_ok=True)
     (root / "dist" / "mosaikrun").unlink(missing_ok=True)
