@@ -7,6 +7,7 @@ whether any step came before its moment; and it prints how late the steps came a
 machine and are judged by nobody. A simulator that is too slow has to end a run with `--strict`, with its line and with none of the
 five left behind, and changes nothing without. It ends with 'N passed, M failed'.
 """
+# alone: it measures time
 import os
 import pathlib
 import re
@@ -17,7 +18,8 @@ import tempfile
 import time
 from typing import Dict, List, NamedTuple
 
-CHECKS = pathlib.Path(__file__).resolve().parent
+from common import ROOT, status_of
+
 NAMES = ("A", "B", "C", "D", "E")
 FACTOR = 10
 SIMULATOR = """[[sim]]
@@ -47,7 +49,7 @@ class Study:
 
     def __init__(self, program: str, path: pathlib.Path, until: int) -> None:
         self.program, self.path, self.until = program, path, until
-        for file in (CHECKS / "ticker.py", CHECKS.parent / "examples" / "api.py"):
+        for file in (ROOT / "checks" / "cases" / "simulators" / "ticker.py", ROOT / "examples" / "api.py"):
             shutil.copy(file, path)
 
     def scenario(self, sims: Dict[str, str]) -> str:
@@ -165,4 +167,4 @@ def main() -> int:
 
 
 if __name__ == "__main__":
-    sys.exit(main())
+    sys.exit(status_of(main))

@@ -2,9 +2,9 @@
 """Runs a built program on the studies of `examples`, and tries the tools that lie there.
 
 `run_examples.py PROGRAM` runs each scenario `NAME.toml` of `examples` in that folder, and compares the exit status
-and both outputs with `checks/examples/NAME.expected`; then it replays the record of the run in another order, and
+and both outputs with `checks/cases/examples/NAME.expected`; then it replays the record of the run in another order, and
 compares the report. Where a scenario has a line `# First, in another terminal: COMMAND` that command is started
-before, at a free port. Each line of `checks/examples/edits.jsonl` is a study with a text replaced, and what then
+before, at a free port. Each line of `checks/cases/examples/edits.jsonl` is a study with a text replaced, and what then
 comes: the status, the error line of the program, a text that the output has, or that the output is the study's. What
 `world.py` writes is compared with the files `*.written` and run; the values of `whole.py` go both ways; what
 `docs/from-mosaik.md` shows has to be what came.
@@ -29,8 +29,9 @@ import sys
 import tempfile
 import time
 
-CHECKS = pathlib.Path(__file__).resolve().parent
-EXAMPLES, STORED = CHECKS.parent / "examples", CHECKS / "examples"
+from common import ROOT, left_behind, status_of
+
+EXAMPLES, STORED = ROOT / "examples", ROOT / "checks" / "cases" / "examples"
 FIRST = re.compile(r"^# First, in another terminal: (.*)$", re.MULTILINE)
 ADDRESS = re.compile(r'^connect = "127\.0\.0\.1:(\d+)"$', re.MULTILINE)
 
@@ -44,21 +45,6 @@ def is_awaited(port: int) -> bool:
     """Whether somebody listens at the port. A trial would be taken for the orchestrator, so the table is read."""
     rows = [line.split() for line in pathlib.Path("/proc/net/tcp").read_text(encoding="ascii").splitlines()[1:]]
     return any(row[1].endswith(f":{port:04X}") and row[3] == "0A" for row in rows)
-
-
-def left_behind(session: int) -> list[str]:
-    """Returns the names of the programs of this session that still run."""
-    names = []
-    for file in pathlib.Path("/proc").glob("[0-9]*/stat"):
-        try:
-            text = file.read_text(encoding="utf-8", errors="replace")
-        except OSError:
-            # it has ended meanwhile
-            continue
-        state, _, _, its = text[text.rindex(")") + 1 :].split()[:4]
-        if int(its) == session and state != "Z":
-            names.append(text[text.index("(") + 1 : text.rindex(")")])
-    return names
 
 
 def called(words: list[str]) -> tuple[int, str, str]:
@@ -177,7 +163,7 @@ class Checks:
 
     def page(self) -> None:
         """What `docs/from-mosaik.md` shows: outputs, error lines, and the first run of a simulator alone."""
-        text = (CHECKS.parent / "docs" / "from-mosaik.md").read_text(encoding="utf-8")
+        text = (ROOT / "docs" / "from-mosaik.md").read_text(encoding="utf-8")
         blocks = re.findall(r"^```(\w*)\n(.*?)^```$", text, re.MULTILINE | re.DOTALL)
         shown = [block for kind, block in blocks if not kind]
         known = [file.read_text(encoding="utf-8") for file in STORED.glob("*.expected")]
@@ -300,4 +286,4 @@ def main() -> int:
     return 1 if failed or not checks.cases else 0
 
 
-sys.exit(main())
+sys.exit(status_of(main))

@@ -14,7 +14,8 @@ import sys
 import tempfile
 from types import ModuleType
 
-ROOT = pathlib.Path(__file__).resolve().parent.parent
+from common import ROOT, status_of
+
 # outputs of a later time, an event, rounds within a time
 SCENARIO = """until = 3
 sim = [
@@ -242,4 +243,4 @@ def main() -> int:
     return 1 if failed else 0
 
 
-sys.exit(main())
+sys.exit(status_of(main))

@@ -18,7 +18,7 @@ import tempfile
 import time
 from typing import Iterator, List, NamedTuple
 
-CHECKS = pathlib.Path(__file__).resolve().parent
+ROOT = pathlib.Path(__file__).resolve().parents[2]
 HEAD = 'mosaikrun 1\nrun [{until},100,20000000]\nsim ["A-0","time-based",3,0,[]]\nmodel [0,"Count",["out"],false]\nentity [0,"0",[]]\n'
 PAIR = """mosaikrun 1
 run [{until},100,20000000]
@@ -127,7 +127,7 @@ def long_record(program: str, room: str, size: int) -> bool:
 
 def children(program: str, room: str, count: int, begin: float, size: int) -> bool:
     """A run of some child programs, each of which takes a while to begin, and gives a text of some bytes at each step."""
-    pathlib.Path(room, "api.py").write_bytes((CHECKS.parent / "examples" / "api.py").read_bytes())
+    pathlib.Path(room, "api.py").write_bytes((ROOT / "examples" / "api.py").read_bytes())
     pathlib.Path(room, "slow.py").write_text(SLOW.format(begin=begin, size=size), encoding="utf-8")
     parts: List[str] = ["until = 2\n"]
     for place in range(count):

@@ -18,6 +18,8 @@ import tempfile
 import threading
 from typing import Callable, Dict, List, NamedTuple, Optional
 
+from common import status_of
+
 SCENARIO = """until = {until}
 [[sim]]
 name = "A"
@@ -273,4 +275,4 @@ def main() -> int:
 
 
 if __name__ == "__main__":
-    sys.exit(main())
+    sys.exit(status_of(main))

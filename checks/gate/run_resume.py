@@ -14,7 +14,8 @@ import sys
 import tempfile
 from typing import Dict, List, NamedTuple
 
-CHECKS = pathlib.Path(__file__).resolve().parent
+from common import ROOT, status_of
+
 SCENARIO = """until = {until}
 [[sim]]
 name = "A"
@@ -56,7 +57,7 @@ class Study:
 
     def __init__(self, program: str, path: pathlib.Path, until: int) -> None:
         self.program, self.path, self.until = program, path, until
-        for file in (CHECKS / "walker.py", CHECKS.parent / "examples" / "api.py"):
+        for file in (ROOT / "checks" / "cases" / "simulators" / "walker.py", ROOT / "examples" / "api.py"):
             shutil.copy(file, path)
         self.whole = self.run("whole.record")
         self.record = self.saved("whole.record")
@@ -169,4 +170,4 @@ def main() -> int:
 
 
 if __name__ == "__main__":
-    sys.exit(main())
+    sys.exit(status_of(main))

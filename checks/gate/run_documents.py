@@ -3,15 +3,15 @@
 
 `run_documents.py PROGRAM [--builds] [DOCUMENT ..]` reads README.md, docs/tutorial.md and docs/from-mosaik.md (where
 it is there), or the documents that are named, and runs each block that is fenced with ```sh by `bash -e`, in a copy
-of this repository's files, with PROGRAM on the path as `mosaikrun`, and `mk_child`, which lies in PROGRAM's folder or
-where its own crate makes it. A block goes on in the folder where the one before it ended; the first is run at the
-root, that of docs/from-mosaik.md in examples. Where a block fenced with ```text follows, with blank lines alone
-between, it has to be what the commands print, standard output and standard error together; a line `...` in it stands
-for any lines. Marks are comments, each on a line of its own before the block that it is for, which a reader of the
-page doesn't see:
+of this repository's files, with PROGRAM on the path as `mosaikrun` and at `dist/mosaikrun`, and `mk_child`, which lies
+in PROGRAM's folder or where its own crate makes it. A block goes on in the folder where the one before it ended; the
+first is run at the root, that of docs/from-mosaik.md in examples. Where a block fenced with ```text follows, with blank
+lines alone between, it has to be what the commands print, standard output and standard error together; a line `...` in
+it stands for any lines. Marks are comments, each on a line of its own before the block that it is for, which a reader
+of the page doesn't see:
 
     <!-- builds -->             these commands build: they are left out unless --builds is given; a block that calls
-                                `rt` or `.ci/run`, or goes into `crates`, and has no such mark fails
+                                `rt` or `.ci/run`, goes into `crates`, or runs all checks, and has no mark fails
     <!-- not run -->            these commands are never tried
     <!-- status N -->           the commands end with this status; without it, with 0
     <!-- at FOLDER -->          they are run in this folder, from the root
@@ -30,10 +30,11 @@ import sys
 import tempfile
 from typing import NamedTuple, Optional
 
-ROOT = pathlib.Path(__file__).resolve().parent.parent
+from common import ROOT, child_of, status_of
+
 # the documents, each with the folder in which its reader begins
 DOCUMENTS = {"README.md": ".", "docs/tutorial.md": ".", "docs/from-mosaik.md": "examples"}
-BUILDS = re.compile(r"(^|[\s;&|(])(rt|\.ci/run)([\s;&|)]|$)|\bcd\s+\S*crates\b", re.MULTILINE)
+BUILDS = re.compile(r"(^|[\s;&|(])(rt|\.ci/run)([\s;&|)]|$)|\bcd\s+\S*crates\b|checks/run_all\.py", re.MULTILINE)
 MARK = re.compile(r"<!--\s*(builds|not run|status|at|file)\b\s*(.*?)\s*-->\s*")
 SECONDS = 120
 
@@ -114,14 +115,17 @@ def compared(block: Block) -> str:
 def document(name: str, room: pathlib.Path, path: str, builds: bool) -> tuple[int, int]:
     """Tries a document: answers how many of its blocks passed, and how many failed."""
     root = room / "root"
-    left = [".git", "out"] + ([] if builds else ["crates"])
+    left = [".git", "out", "__pycache__"] + ([] if builds else ["crates"])
     shutil.copytree(ROOT, root, ignore=shutil.ignore_patterns(*left), symlinks=True)
+    (root / "dist").mkdir(exist_ok=True)
+    (root / "dist" / "mosaikrun").unlink(missing_ok=True)
+    (root / "dist" / "mosaikrun").symlink_to((room / "bin" / "mosaikrun").resolve())
     folder, passed, failed = str(root / DOCUMENTS.get(name, ".")), 0, 0
     for block in blocks((ROOT / name).read_text(encoding="utf-8")):
         if "file" in block.marks:
             wrong = compared(block)
         elif block.language == "sh" and BUILDS.search(block.text) and not {"builds", "not run"} & block.marks.keys():
-            wrong = "these commands build, and have no mark that says so"
+            wrong = "these commands build or run all checks, and have no mark that says so"
         elif block.language != "sh" or "not run" in block.marks or ("builds" in block.marks and not builds):
             continue
         else:
@@ -144,9 +148,9 @@ def main() -> int:
         room = pathlib.Path(text)
         (room / "bin").mkdir()
         (room / "bin" / "mosaikrun").symlink_to(program)
-        for child in (program.parent / "mk_child", program.parents[2] / "mk_child" / "out" / "mk_child"):
-            if child.is_file() and not (room / "bin" / "mk_child").exists():
-                (room / "bin" / "mk_child").symlink_to(child.resolve())
+        child = child_of(program)
+        if child is not None:
+            (room / "bin" / "mk_child").symlink_to(child.resolve())
         path = f"{room / 'bin'}{os.pathsep}{os.environ['PATH']}"
         for name in names:
             some = document(name, room, path, "--builds" in sys.argv)
@@ -155,4 +159,4 @@ def main() -> int:
     return 1 if failed or not passed else 0
 
 
-sys.exit(main())
+sys.exit(status_of(main))

@@ -20,7 +20,7 @@ import sys
 import tempfile
 import time
 
-ROOT = pathlib.Path(__file__).resolve().parent.parent
+ROOT = pathlib.Path(__file__).resolve().parents[2]
 FILES = ["day.toml", "my study.toml", "day.record", "notes.txt", "sub/inner.toml"]
 COMMANDS = ["run", "replay", "check", "demo", "migrate", "resume", "paced", "watch", "blame"]
 
