@@ -22,7 +22,15 @@ DOCUMENTS = ["README.md", "CONTRIBUTING.md", "docs/*.md", "checks/README.md", "d
 LONGEST = 30
 README_WORDS = 900
 # for each document that isn't done yet: its long sentences, and its words of the old dialect
-CEILINGS: dict[str, tuple[int, int]] = {}
+CEILINGS: dict[str, tuple[int, int]] = {
+    "docs/DECISIONS.md": (106, 95),
+    "docs/architecture.md": (65, 58),
+    "docs/claims.md": (183, 241),
+    "docs/definitions.md": (90, 79),
+    "docs/edits.md": (28, 22),
+    "docs/from-mosaik.md": (6, 17),
+    "docs/rules.md": (23, 17),
+}
 # what isn't said any more, and what is said instead
 DIALECT = {
     r"\bbut for\b": "except",
