@@ -1,16 +1,16 @@
 #!/usr/bin/env python3
 """Runs a built program on the studies of `examples`, and tries the tools that lie there.
 
-`run_examples.py PROGRAM` runs each scenario `NAME.toml` of `examples` in that folder, or at the top of the repository
-where one of its commands names a file of `examples`. It compares the exit status and both outputs with
-`checks/examples/NAME.expected`; then it replays the record of the run in another order, and compares the report.
-Where a scenario has a line `# First, in another terminal: COMMAND` that command is started before, at a free port.
-Each line of `checks/examples/edits.jsonl` is a study with a text replaced, and what then comes: the status, the error
-line of the program, a text that the output has, or that the output is the study's. What `world.py` writes is compared
-with the files `*.written` and run; the values of `whole.py` go both ways; what `docs/from-mosaik.md` shows has to be
-what came.
+`run_examples.py PROGRAM` runs each scenario `NAME.toml` of `examples` in that folder, and compares the exit status
+and both outputs with `checks/examples/NAME.expected`; then it replays the record of the run in another order, and
+compares the report. Where a scenario has a line `# First, in another terminal: COMMAND` that command is started
+before, at a free port. Each line of `checks/examples/edits.jsonl` is a study with a text replaced, and what then
+comes: the status, the error line of the program, a text that the output has, or that the output is the study's. What
+`world.py` writes is compared with the files `*.written` and run; the values of `whole.py` go both ways; what
+`docs/from-mosaik.md` shows has to be what came.
 `run_examples.py PROGRAM --store` stores what comes as expected. A case fails too where a program that it started
 still runs. The last line is 'N passed, M failed'.
+A scenario whose command names a file of `examples` is run at the top of the repository.
 """
 
 from __future__ import annotations
@@ -62,10 +62,10 @@ def left_behind(session: int) -> list[str]:
     return names
 
 
-def called(words: list[str], folder: pathlib.Path = EXAMPLES) -> tuple[int, str, str]:
-    """Calls a program in this folder, for at most five minutes: its status and both outputs."""
+def called(words: list[str]) -> tuple[int, str, str]:
+    """Calls a program in `examples`, for at most five minutes: its status and both outputs."""
     with tempfile.TemporaryFile() as out, tempfile.TemporaryFile() as err:
-        with subprocess.Popen(words, cwd=folder, start_new_session=True, stdout=out, stderr=err) as ran:
+        with subprocess.Popen(words, cwd=EXAMPLES, start_new_session=True, stdout=out, stderr=err) as ran:
             try:
                 ran.wait(300)
                 faults = [f"it left {name}\n" for name in left_behind(ran.pid)]
@@ -89,16 +89,16 @@ def run(program: str, text: str, record: str) -> tuple[int, str, str]:
         scenario = pathlib.Path(room) / "study.toml"
         scenario.write_text(text, encoding="utf-8")
         words = [program, "run", str(scenario), "--record", record]
-        # a scenario whose command names a file of `examples` is run at the top
-        folder = CHECKS.parent if " examples/" in text else EXAMPLES
+        if " examples/" in text:
+            words = ["env", "-C", str(EXAMPLES.parent), *words]
         if not first:
-            return called(words, folder)
+            return called(words)
         with subprocess.Popen(shlex.split(command), cwd=EXAMPLES) as waiting:
             try:
                 end = time.monotonic() + 10
                 while not is_awaited(port) and time.monotonic() < end:
                     time.sleep(0.02)
-                answer = called(words, folder)
+                answer = called(words)
                 waiting.wait(10)
             finally:
                 waiting.kill()
