@@ -30,6 +30,7 @@ CEILINGS: dict[str, tuple[int, int]] = {
     "docs/edits.md": (28, 22),
     "docs/from-mosaik.md": (6, 17),
     "docs/rules.md": (23, 17),
+    "dist/README.md": (0, 3),
 }
 # what isn't said any more, and what is said instead
 DIALECT = {
