@@ -28,7 +28,7 @@ CEILINGS: dict[str, tuple[int, int]] = {
     "docs/claims.md": (183, 241),
     "docs/definitions.md": (90, 79),
     "docs/edits.md": (28, 22),
-    "docs/from-mosaik.md": (6, 17),
+    "docs/from-mosaik.md": (6, 22),
     "docs/rules.md": (23, 17),
     "dist/README.md": (0, 3),
 }
