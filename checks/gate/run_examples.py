@@ -10,6 +10,7 @@ comes: the status, the error line of the program, a text that the output has, or
 `docs/from-mosaik.md` shows has to be what came.
 `run_examples.py PROGRAM --store` stores what comes as expected. A case fails too where a program that it started
 still runs. The last line is 'N passed, M failed'.
+A scenario whose command names a file of `examples` is run at the top of the repository.
 """
 
 from __future__ import annotations
@@ -74,6 +75,8 @@ def run(program: str, text: str, record: str) -> tuple[int, str, str]:
         scenario = pathlib.Path(room) / "study.toml"
         scenario.write_text(text, encoding="utf-8")
         words = [program, "run", str(scenario), "--record", record]
+        if " examples/" in text:
+            words = ["env", "-C", str(EXAMPLES.parent), *words]
         if not first:
             return called(words)
         with subprocess.Popen(shlex.split(command), cwd=EXAMPLES) as waiting:
