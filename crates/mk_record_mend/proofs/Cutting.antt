@@ -228,25 +228,25 @@ cut_is_read P J first others n ok is long =
     let body : List ℕ = plan ++ entry_line first in
     let m : ℕ = n - length body in
     let text : record_text P J ≡ body ++ (flat_map entry_line others ++ z) =
-        whole_is P J ∙ ap (λ es. (plan ++ flat_map entry_line es) ++ z) is ∙ ap (λ t. t ++ z) (sym (append_assoc plan (entry_line first) (flat_map entry_line others))) ∙ append_assoc body (flat_map entry_line others) z in
+    whole_is P J ∙ ap (λ es. (plan ++ flat_map entry_line es) ++ z) is ∙ ap (λ t. t ++ z) (sym (append_assoc plan (entry_line first) (flat_map entry_line others))) ∙ append_assoc body (flat_map entry_line others) z in
     let cut : take n (record_text P J) ≡ body ++ take m (flat_map entry_line others ++ z) =
-        (let a = length-append plan (entry_line first) in
-        let sum : n ≡ length body + m = omega (arith, a, long) in
-        ap (take n) text ∙ ap (λ k. take k (body ++ (flat_map entry_line others ++ z))) sum ∙ take-append-add body (flat_map entry_line others ++ z) m) in
+    (let a = length-append plan (entry_line first) in
+    let sum : n ≡ length body + m = omega (arith, a, long) in
+    ap (take n) text ∙ ap (λ k. take k (body ++ (flat_map entry_line others ++ z))) sum ∙ take-append-add body (flat_map entry_line others ++ z) m) in
     elim (cut_entries P few end (clean-append (codes "end ") (decimal (length (entries_of J))) refl (clean-decimal (length (entries_of J)) ok.count)) others f.1 m) [
       | inl whole ↦ (let same : take n (record_text P J) ≡ record_text P J = cut ∙ ap (λ t. body ++ t) whole ∙ sym text in
-        begins P J J [] (sym (append_nil J)) ok (take n (record_text P J)) (ap mended same ∙ whole_left (record_text P J) P (arrivals J) (Some (steps_of J)) (read_again P J ok)))
+          begins P J J [] (sym (append_nil J)) ok (take n (record_text P J)) (ap mended same ∙ whole_left (record_text P J) P (arrivals J) (Some (steps_of J)) (read_again P J ok)))
       | inr c ↦ (let done : List RecordEntry = first ∷ c.0 in
-        let split : entries_of J ≡ done ++ c.1 = is ∙ ap (λ l. first ∷ l) c.3 in
-        let b = begun J done c.1 split in
-        let H : List Entry = b.0 in
-        let here : entries_of H ≡ done = b.3 in
-        let good = begun_recordable P J H done c.1 ok split here in
-        let ends : EndsInLine (plan ++ flat_map entry_line (entries_of H)) =
-            subst (λ (es : List RecordEntry). EndsInLine (plan ++ flat_map entry_line es)) (sym here)
-            (subst EndsInLine (append_assoc plan (entry_line first) (flat_map entry_line c.0)) (with_entries P few c.0 (and_parts (entry_fits P first) (list_all (entry_fits P) c.0) (ap (list_all (entry_fits P)) (sym here) ∙ good.entries)).1 body (with_entry P few plan (plan_ends P) first f.0))) in
-        let shown : take n (record_text P J) ≡ (plan ++ flat_map entry_line (entries_of H)) ++ c.2 =
-            cut ∙ ap (λ t. body ++ t) c.4 ∙ sym (append_assoc body (flat_map entry_line c.0) c.2)
-            ∙ ap (λ t. t ++ c.2) (append_assoc plan (entry_line first) (flat_map entry_line c.0)) ∙ ap (λ es. (plan ++ flat_map entry_line es) ++ c.2) (sym here) in
-        begins P J H b.1 b.2 good (take n (record_text P J)) (ap mended shown ∙ mended_body P H good c.2 c.5 ends))
+          let split : entries_of J ≡ done ++ c.1 = is ∙ ap (λ l. first ∷ l) c.3 in
+          let b = begun J done c.1 split in
+          let H : List Entry = b.0 in
+          let here : entries_of H ≡ done = b.3 in
+          let good = begun_recordable P J H done c.1 ok split here in
+          let ends : EndsInLine (plan ++ flat_map entry_line (entries_of H)) =
+          subst (λ (es : List RecordEntry). EndsInLine (plan ++ flat_map entry_line es)) (sym here)
+          (subst EndsInLine (append_assoc plan (entry_line first) (flat_map entry_line c.0)) (with_entries P few c.0 (and_parts (entry_fits P first) (list_all (entry_fits P) c.0) (ap (list_all (entry_fits P)) (sym here) ∙ good.entries)).1 body (with_entry P few plan (plan_ends P) first f.0))) in
+          let shown : take n (record_text P J) ≡ (plan ++ flat_map entry_line (entries_of H)) ++ c.2 =
+          cut ∙ ap (λ t. body ++ t) c.4 ∙ sym (append_assoc body (flat_map entry_line c.0) c.2)
+          ∙ ap (λ t. t ++ c.2) (append_assoc plan (entry_line first) (flat_map entry_line c.0)) ∙ ap (λ es. (plan ++ flat_map entry_line es) ++ c.2) (sym here) in
+          begins P J H b.1 b.2 good (take n (record_text P J)) (ap mended shown ∙ mended_body P H good c.2 c.5 ends))
     ]

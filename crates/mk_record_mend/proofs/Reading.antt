@@ -80,12 +80,12 @@ said_lines P A s piece h (line ∷ []) all S n e = let c = (and_parts (all_clean
 said_lines P A s piece h (line ∷ next ∷ lines) all S n e =
     let c = and_parts (all_clean line) (list_all all_clean (next ∷ lines)) all in
     let text : List ℕ = text_of_lines (next ∷ lines) in elim (steps S line) [
-  | inl g ↦ said_lines P A s piece h (next ∷ lines) c.1 g.0 (n + 1) (sym (goes_on S g.0 n line text piece c.0 g.1) ∙ e)
-  | inr w ↦ elim w [
-    | inl d ↦ let f = filled next (text_of_lines lines) piece in absurd (not_said P A s (n + 1) overlong (sym (goes_beyond S n f.0 line text piece f.1 c.0 d f.2) ∙ e))
-    | inr k ↦ absurd (not_said P A s n k.0 (sym (goes_wrong S n k.0 line text piece c.0 k.1) ∙ e))
-  ]
-]
+      | inl g ↦ said_lines P A s piece h (next ∷ lines) c.1 g.0 (n + 1) (sym (goes_on S g.0 n line text piece c.0 g.1) ∙ e)
+      | inr w ↦ elim w [
+        | inl d ↦ let f = filled next (text_of_lines lines) piece in absurd (not_said P A s (n + 1) overlong (sym (goes_beyond S n f.0 line text piece f.1 c.0 d f.2) ∙ e))
+        | inr k ↦ absurd (not_said P A s n k.0 (sym (goes_wrong S n k.0 line text piece c.0 k.1) ∙ e))
+      ]
+    ]
 
 pub whole_left : (bytes : List ℕ) (P : Plan) (A : List Arrival) (s : Option (List Asked)) → reading bytes ≡ Said P A s → mended bytes ≡ bytes
 whole_left bytes P A s e = let p = parts bytes in is_left bytes (said_lines P A s p.piece p.clean (whole_lines bytes) p.lines before_lines 1 (ap reading (sym p.whole) ∙ e))
@@ -105,14 +105,14 @@ faulty_lines l j other piece h b end (line ∷ []) all ends S n e = let c = (and
 faulty_lines l j other piece h b end (line ∷ next ∷ lines) all ends S n e =
     let c = and_parts (all_clean line) (list_all all_clean (next ∷ lines)) all in
     let text : List ℕ = text_of_lines (next ∷ lines) in elim (steps S line) [
-  | inl g ↦ goes_on S g.0 n line text (b ∷ end) c.0 g.1 ∙ faulty_lines l j other piece h b end (next ∷ lines) c.1 ends g.0 (n + 1) (sym (goes_on S g.0 n line text piece c.0 g.1) ∙ e)
-  | inr w ↦ elim w [
-    | inl d ↦ (let f = filled next (text_of_lines lines) piece in
-        let m = filled next (text_of_lines lines) (b ∷ end) in
-        goes_beyond S n m.0 line text (b ∷ end) m.1 c.0 d m.2 ∙ sym (goes_beyond S n f.0 line text piece f.1 c.0 d f.2) ∙ e)
-    | inr k ↦ goes_wrong S n k.0 line text (b ∷ end) c.0 k.1 ∙ sym (goes_wrong S n k.0 line text piece c.0 k.1) ∙ e
-  ]
-]
+      | inl g ↦ goes_on S g.0 n line text (b ∷ end) c.0 g.1 ∙ faulty_lines l j other piece h b end (next ∷ lines) c.1 ends g.0 (n + 1) (sym (goes_on S g.0 n line text piece c.0 g.1) ∙ e)
+      | inr w ↦ elim w [
+        | inl d ↦ (let f = filled next (text_of_lines lines) piece in
+            let m = filled next (text_of_lines lines) (b ∷ end) in
+            goes_beyond S n m.0 line text (b ∷ end) m.1 c.0 d m.2 ∙ sym (goes_beyond S n f.0 line text piece f.1 c.0 d f.2) ∙ e)
+        | inr k ↦ goes_wrong S n k.0 line text (b ∷ end) c.0 k.1 ∙ sym (goes_wrong S n k.0 line text piece c.0 k.1) ∙ e
+      ]
+    ]
 
 pub fault_stays : (bytes : List ℕ) (l j : ℕ) → reading bytes ≡ Faulty l j → (j ≡ unended → ⊥) → reading (mended bytes) ≡ Faulty l j
 fault_stays bytes l j e other =
@@ -192,12 +192,12 @@ said_leads P A s b rest [] all S n e = (S, n, refl, e)
 said_leads P A s b rest (line ∷ lines) all S n e =
     let c = and_parts (all_clean line) (list_all all_clean lines) all in
     let text : List ℕ = text_of_lines lines in elim (steps S line) [
-  | inl g ↦ (let r = said_leads P A s b rest lines c.1 g.0 (n + 1) (sym (goes_on S g.0 n line text (b ∷ rest) c.0 g.1) ∙ e) in (r.0, r.1, (g.0, g.1, r.2), r.3))
-  | inr w ↦ elim w [
-    | inl d ↦ (let f = headed lines b rest in absurd (not_said P A s (n + 1) overlong (sym (goes_beyond S n f.0 line text (b ∷ rest) f.1 c.0 d f.2) ∙ e)))
-    | inr k ↦ absurd (not_said P A s n k.0 (sym (goes_wrong S n k.0 line text (b ∷ rest) c.0 k.1) ∙ e))
-  ]
-]
+      | inl g ↦ (let r = said_leads P A s b rest lines c.1 g.0 (n + 1) (sym (goes_on S g.0 n line text (b ∷ rest) c.0 g.1) ∙ e) in (r.0, r.1, (g.0, g.1, r.2), r.3))
+      | inr w ↦ elim w [
+        | inl d ↦ (let f = headed lines b rest in absurd (not_said P A s (n + 1) overlong (sym (goes_beyond S n f.0 line text (b ∷ rest) f.1 c.0 d f.2) ∙ e)))
+        | inr k ↦ absurd (not_said P A s n k.0 (sym (goes_wrong S n k.0 line text (b ∷ rest) c.0 k.1) ∙ e))
+      ]
+    ]
 
 last_ends : (P : Plan) (A : List Arrival) (s : Option (List Asked)) (T : State) (m : ℕ) (end : List ℕ) → all_clean end ≡ true → reading_from T m (slice_split is_feed ((end ++ codes "\n") ++ [])) ≡ Said P A s → line_step T end ≡ Ended
 last_ends P A s T m end h e = elim (steps T end) [
