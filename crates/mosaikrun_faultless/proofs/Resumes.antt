@@ -20,6 +20,8 @@ use Rattle.mk_scenario.specs.declared.parts.Scenario.{Scenario}
 use Rattle.mk_sched.specs.declared.faults.CoreFault.{CoreFault}
 use Rattle.mk_record.specs.Seen.{came}
 use Rattle.mk_record_compare.specs.Differences.{IsOther}
+use Rattle.mk_record_mend.proofs.Reading.{whole_left}
+use Rattle.mk_record_read.specs.Reading.{reading}
 use Rattle.mk_record_read.specs.declared.saved.Asked.{Asked}
 use Rattle.mk_record_restored.specs.declared.restoring.Restored.{Restored}
 use Rattle.mk_record_restored.specs.declared.restoring.Restored.TheVariants as restored
@@ -193,7 +195,7 @@ module _ (O : Outside) (bytes recorded : List ℕ) (w : RecordsWithin O.kinds by
     prepared = (w.run).prepared;
     handshake = handshake O bytes w.run handshakes calm;
     old = w.old;
-    old_read = w.old_read;
+    old_read = ap reading (whole_left recorded (w.old).plan A (w.old).asks w.old_read) ∙ w.old_read;
     right = λ any P ranked refused. subst (λ (Q : Plan). IsRightRecord Q w.old) (sym (same_plan O bytes w.run any ranked refused.answers P refused.made refused.kinds)) right_record;
     run = λ any P J end ranked h. resumed P J O.faults O.new_faults end (same_plan O bytes w.run any ranked h.answers P h.made h.kinds) h.run calm;
   }

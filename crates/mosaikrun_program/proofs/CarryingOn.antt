@@ -3,6 +3,7 @@ use Rattle.std.proofs.Common.{◌≡◌, ◌≤◌, ℕ, List, [], ◌∷◌, in
 use Rattle.std.specs.Prelude.{is_some}
 use Rattle.mk_outside.specs.Counts.{HasRisen}
 use Rattle.mk_local.specs.Kinds.{name_of}
+use Rattle.mk_record_mend.specs.Mended.{mended}
 use Rattle.mosaikrun_words.specs.declared.request.Request.TheVariants.{Resume}
 use Rattle.mosaikrun_check.specs.Checks.{IsUnchecked}
 use Rattle.mosaikrun_endings.specs.declared.ending.Ending.{Ending}
@@ -57,7 +58,7 @@ module _ (S : Around) (scenario recorded : List ℕ) (name : Option (List ℕ)) 
 
   -- both were read
   pub gone_on : (answer : Result (Unit {0}) Ending) (bytes old : List ℕ) → HasBytes S.folder.files scenario bytes → HasBytes S.folder.files recorded old → (study : IsStudy kinds bytes) (text : Result (List ℕ) Ending) (kept : Option (List ℕ))
-      → IsStudyOutcome S.outside (is_some name) study.scenario study.ranks old text kept → RunAnswer S.folder S.output name text kept answer → EndedAs S answer
+      → IsStudyOutcome S.outside (is_some name) study.scenario study.ranks (mended old) text kept → RunAnswer S.folder S.output name text kept answer → EndedAs S answer
   gone_on answer bytes old held too study text kept outcome said = performed S answer (inr (record {
     request = Resume scenario recorded name;
     asked = asked;

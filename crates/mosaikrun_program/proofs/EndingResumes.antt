@@ -9,6 +9,7 @@ use Rattle.mk_plan.specs.declared.Plan.{Plan}
 use Rattle.mk_plan.specs.declared.Entry.{Entry}
 use Rattle.mk_plan.specs.Journals as journals
 use Rattle.mk_scenario.specs.declared.parts.Scenario.{Scenario}
+use Rattle.mk_record_mend.specs.Mended.{mended}
 use Rattle.mosaikrun_run.specs.Outcomes.{attempt_in, exchange_in}
 use Rattle.mk_local.specs.Kinds.{name_of}
 use Rattle.mk_record.specs.Reading.{Reading, reading, Said, Faulty}
@@ -109,16 +110,16 @@ module _ (C : Around) (name : Option (List ℕ)) (bytes recorded : List ℕ) (te
   kinds = map name_of C.outside.kinds
 
   -- where the scenario is refused
-  refused : IsResumeOutcome C.outside (is_some name) bytes recorded text kept → (e : Ending) → IsUnchecked kinds bytes e → (e ≡ Mem → ⊥) → IsStatusOr 3 (status r)
+  refused : IsResumeOutcome C.outside (is_some name) bytes (mended recorded) text kept → (e : Ending) → IsUnchecked kinds bytes e → (e ≡ Mem → ⊥) → IsStatusOr 3 (status r)
   refused (inl none) e un not = status_of_none C name text kept r said none.ending none.is 3 (fault_status kinds bytes none.ending none.cause)
   refused (inr has) e un not = absurd (refused_not kinds bytes e un not has.study)
 
   -- where the record is
-  unread : IsResumeOutcome C.outside (is_some name) bytes recorded text kept → (e : Ending) → IsUnread recorded e → (e ≡ Mem → ⊥) → IsStatusOr 3 (status r)
+  unread : IsResumeOutcome C.outside (is_some name) bytes (mended recorded) text kept → (e : Ending) → IsUnread (mended recorded) e → (e ≡ Mem → ⊥) → IsStatusOr 3 (status r)
   unread (inl none) e un not = status_of_none C name text kept r said none.ending none.is 3 (fault_status kinds bytes none.ending none.cause)
   unread (inr has) e un not = elim has.outcome [
-    | inl none ↦ status_of_none C name text kept r said none.ending none.is 3 (unread_status recorded none.ending none.cause)
-    | inr rec ↦ absurd (no_record recorded e un not (record { plan = rec.saved.plan; arrivals = map came rec.saved.arrivals; steps = rec.saved.asks; read = rec.read }))
+    | inl none ↦ status_of_none C name text kept r said none.ending none.is 3 (unread_status (mended recorded) none.ending none.cause)
+    | inr rec ↦ absurd (no_record (mended recorded) e un not (record { plan = rec.saved.plan; arrivals = map came rec.saved.arrivals; steps = rec.saved.asks; read = rec.read }))
   ]
 
   -- no fault is shown by what follows on this scenario and this record
@@ -152,13 +153,13 @@ module _ (C : Around) (name : Option (List ℕ)) (bytes recorded : List ℕ) (te
       ]
 
   -- where nothing goes wrong
-  faultless : HandshakesComplete → IsFaultlessResume C.outside bytes recorded → IsResumeOutcome C.outside (is_some name) bytes recorded text kept → IsStatusOr 0 (status r)
+  faultless : HandshakesComplete → IsFaultlessResume C.outside bytes recorded → IsResumeOutcome C.outside (is_some name) bytes (mended recorded) text kept → IsStatusOr 0 (status r)
   faultless law f (inl none) = status_of_none C name text kept r said none.ending none.is 0 (inl (runnable_not kinds bytes f.scenario f.ranks f.read f.ranked f.prepared none.ending none.cause))
   faultless law f (inr has) = elim has.outcome [
-    | inl none ↦ status_of_none C name text kept r said none.ending none.is 0 (inl (read_not recorded f.old f.old_read none.ending none.cause))
+    | inl none ↦ status_of_none C name text kept r said none.ending none.is 0 (inl (read_not (mended recorded) f.old f.old_read none.ending none.cause))
     | inr rec ↦
         let same : f.scenario ≡ has.study.scenario = one_scenario bytes f.scenario has.study.scenario f.read has.study.read in
-        let one : f.old ≡ rec.saved = one_saved recorded f.old rec.saved f.old_read rec.read in
+        let one : f.old ≡ rec.saved = one_saved (mended recorded) f.old rec.saved f.old_read rec.read in
         went law has.study.scenario has.study.ranks has.study.runnable.ranked rec.saved
         (subst ShowsHandshake same f.handshake)
         (subst (ShowsRight has.study.scenario) one (subst (λ (X : Scenario). ShowsRight X f.old) same f.right))
@@ -174,8 +175,8 @@ module _ (C : Around) (held : Files) (told : C.folder.files ≡ Some held) (scen
     text : Result (List ℕ) Ending
     kept : Option (List ℕ)
     some : List ℕ
-    came_so : IsResumeOutcome C.outside (is_some saved) bytes some text kept
-    came_of : (old : List ℕ) → held record_ ≡ Some old → IsResumeOutcome C.outside (is_some saved) bytes old text kept
+    came_so : IsResumeOutcome C.outside (is_some saved) bytes (mended some) text kept
+    came_of : (old : List ℕ) → held record_ ≡ Some old → IsResumeOutcome C.outside (is_some saved) bytes (mended old) text kept
     answered : RunAnswer C.folder C.output saved text kept r
 
   -- nothing else is asked for
@@ -189,10 +190,10 @@ module _ (C : Around) (held : Files) (told : C.folder.files ≡ Some held) (scen
   was_resumed : (r : Result (Unit {0}) Ending) → IsDoneOver C (Resume scenario record_ saved) r → WasResumed r
   was_resumed r d = by d.read d.held d.outcome
     where
-      of_bytes : (b old : List ℕ) → b ≡ bytes → IsResumeOutcome C.outside (is_some saved) b old d.text d.kept → IsResumeOutcome C.outside (is_some saved) bytes old d.text d.kept
-      of_bytes b old same outcome = subst (λ (x : List ℕ). IsResumeOutcome C.outside (is_some saved) x old d.text d.kept) same outcome
+      of_bytes : (b old : List ℕ) → b ≡ bytes → IsResumeOutcome C.outside (is_some saved) b (mended old) d.text d.kept → IsResumeOutcome C.outside (is_some saved) bytes (mended old) d.text d.kept
+      of_bytes b old same outcome = subst (λ (x : List ℕ). IsResumeOutcome C.outside (is_some saved) x (mended old) d.text d.kept) same outcome
 
-      by : (read : List (List ℕ)) → AreHeld C.folder.files (scenario ∷ record_ ∷ []) read → OfTwoBy (IsStudy (map name_of C.outside.kinds)) (λ b old o. IsResumeOutcome C.outside (is_some saved) b old o d.kept) read d.text → WasResumed r
+      by : (read : List (List ℕ)) → AreHeld C.folder.files (scenario ∷ record_ ∷ []) read → OfTwoBy (IsStudy (map name_of C.outside.kinds)) (λ b old o. IsResumeOutcome C.outside (is_some saved) b (mended old) o d.kept) read d.text → WasResumed r
       by [] h outcome = absurd outcome
       by (b ∷ []) h outcome =
           let same = these scenario b bytes there h.0 in
@@ -200,7 +201,7 @@ module _ (C : Around) (held : Files) (told : C.folder.files ≡ Some held) (scen
       by (b ∷ second ∷ []) h outcome =
           let same = these scenario b bytes there h.0 in
           let so = of_bytes b second same outcome in
-          record { text = d.text; kept = d.kept; some = second; came_so = so; came_of = λ old is. subst (λ (x : List ℕ). IsResumeOutcome C.outside (is_some saved) bytes x d.text d.kept) (these record_ second old is h.1.0) so; answered = d.ended }
+          record { text = d.text; kept = d.kept; some = second; came_so = so; came_of = λ old is. subst (λ (x : List ℕ). IsResumeOutcome C.outside (is_some saved) bytes (mended x) d.text d.kept) (these record_ second old is h.1.0) so; answered = d.ended }
       by (b ∷ second ∷ other ∷ more) h outcome = absurd outcome
 
   -- what the status of the run is, and the words ask for nothing else
@@ -241,7 +242,7 @@ module _ (C : Around) (held : Files) (told : C.folder.files ≡ Some held) (scen
       second : (IsStudy (map name_of C.outside.kinds) bytes → ⊥) ⊎ IsThere held record_
       second = inr (record { bytes = old; is = is; short = fits })
 
-      of_record : (e : Ending) → IsUnread old e → (e ≡ Mem → ⊥) → IsStatusOr 3 (status r)
+      of_record : (e : Ending) → IsUnread (mended old) e → (e ≡ Mem → ⊥) → IsStatusOr 3 (status r)
       of_record e un not = by_run short second 3 (λ s w. unread C saved bytes old w.text w.kept s w.answered (w.came_of old is) e un not) r done
 
       of_faultless : HandshakesComplete → IsFaultlessResume C.outside bytes old → IsStatusOr 0 (status r)
@@ -251,7 +252,7 @@ module _ (C : Around) (held : Files) (told : C.folder.files ≡ Some held) (scen
 abbrev EndsAt : Around → Files → ℕ → Type 0
 EndsAt C held n = (scenario recorded : List ℕ) (saved : Option (List ℕ)) (bytes : List ℕ) → IsAsked C.words (Resume scenario recorded saved) → held scenario ≡ Some bytes → length bytes ≤ file_limit
     → ((e : Ending) → IsUnchecked (map name_of C.outside.kinds) bytes e → (e ≡ Mem → ⊥) → IsStatusOr 3 n)
-    × ((old : List ℕ) → held recorded ≡ Some old → length old ≤ file_limit → (IsFaultlessResume C.outside bytes old → IsStatusOr 0 n) × ((e : Ending) → IsUnread old e → (e ≡ Mem → ⊥) → IsStatusOr 3 n))
+    × ((old : List ℕ) → held recorded ≡ Some old → length old ≤ file_limit → (IsFaultlessResume C.outside bytes old → IsStatusOr 0 n) × ((e : Ending) → IsUnread (mended old) e → (e ≡ Mem → ⊥) → IsStatusOr 3 n))
 
 -- where the folder tells, and where it doesn't
 pub ends_resume : HandshakesComplete → (C : Around) (files : Option Files) (r : Result (Unit {0}) Ending) (n : ℕ) → C.folder.files ≡ files → n ≡ status r → EndedAs C r → IfSome files (λ held. EndsAt C held n)

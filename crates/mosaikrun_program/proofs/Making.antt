@@ -12,6 +12,7 @@ use Rattle.mk_local.specs.Kinds.{name_of}
 use Rattle.mk_plan.specs.declared.Plan.{Plan}
 use Rattle.mk_plan.specs.Journals.{Arrival}
 use Rattle.mk_record.specs.Asked.{Asked}
+use Rattle.mk_record_mend.specs.Mended.{mended}
 use Rattle.mk_record.specs.Reading.{reading, Said, Faulty}
 use Rattle.mosaikrun_records.specs.Reports as reports
 use Rattle.mosaikrun_records.specs.Saved.{IsRecord, IsUnread}
@@ -115,5 +116,5 @@ module _ (files : Option Files) (kinds : List Turn) (rules : RulesSeen) (name : 
   pub check_made : IsMadeOfOne files name (checks.IsOutcome (map name_of kinds)) o → ComesOfFiles files kinds rules (Check name) o
   check_made m = record { read = m.bytes ∷ []; held = (m.held, tt); made = m.made }
 
-  pub migrate_made : (new : List ℕ) → IsMadeOfOne files name IsMigration o → ComesOfFiles files kinds rules (Pair Migrate name new) o
+  pub migrate_made : (new : List ℕ) → IsMadeOfOne files name (λ bytes. IsMigration (mended bytes)) o → ComesOfFiles files kinds rules (Pair Migrate name new) o
   migrate_made new m = record { read = m.bytes ∷ []; held = (m.held, tt); made = m.made }

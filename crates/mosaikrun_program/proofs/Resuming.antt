@@ -9,6 +9,7 @@ use Rattle.mk_record.specs.Reading.{reading, Said, Faulty}
 use Rattle.mk_record.specs.Seen.{came as came_}
 use Rattle.mk_record.specs.Texts.{record_text}
 use Rattle.mk_record_read.specs.declared.saved.Saved.{Saved}
+use Rattle.mk_record_mend.specs.Mended.{mended}
 use Rattle.mosaikrun_words.specs.declared.request.Request.{Request}
 use Rattle.mosaikrun_words.specs.declared.request.Request.TheVariants.{Files as Reads, Resume}
 use Rattle.mosaikrun_check.specs.CheckText.{check_text}
@@ -51,7 +52,7 @@ module _ (S : Around) (bytes recorded name : List ℕ) where
     not_memory : (e : Ending) → text ≡ Err e → e ≡ ends.Mem → ⊥
     not_memory e is mem = not (is ∙ ap (λ (x : Ending). Err x) mem)
 
-    module _ (s : IsStudy (map name_of S.outside.kinds) bytes) (old : Saved) (read : reading recorded ≡ Said old.plan (map came_ old.arrivals) old.asks) where
+    module _ (s : IsStudy (map name_of S.outside.kinds) bytes) (old : Saved) (read : reading (mended recorded) ≡ Said old.plan (map came_ old.arrivals) old.asks) where
       went : IsSavedOutcome S.outside true s.scenario s.ranks old text kept → Kept answer
       went (inl unrun) = inl (record {
         same = same_files kept unrun.unrecorded saved;
@@ -90,16 +91,16 @@ module _ (S : Around) (bytes recorded name : List ℕ) where
         | inr none ↦ absurd (not none.1)
       ]
 
-    came : IsResumeOutcome S.outside true bytes recorded text kept → Kept answer
+    came : IsResumeOutcome S.outside true bytes (mended recorded) text kept → Kept answer
     came (inl none) = inl (record { same = same_files kept none.idle.unrecorded saved; cause = inl (refused_not (map name_of S.outside.kinds) bytes none.ending none.cause (not_memory none.ending none.is)) })
     came (inr has) = elim has.outcome [
-      | inl none ↦ inl (record { same = same_files kept none.idle.unrecorded saved; cause = inr (inl (no_record recorded none.ending none.cause (not_memory none.ending none.is))) })
+      | inl none ↦ inl (record { same = same_files kept none.idle.unrecorded saved; cause = inr (inl (no_record (mended recorded) none.ending none.cause (not_memory none.ending none.is))) })
       | inr rec ↦ went has.study rec.saved rec.read rec.outcome
     ]
 
   module _ (unrisen : HasRisen S.folder.faults S.folder.new_faults → ⊥) where
     -- what the answer says
-    answered : (answer : Result (Unit {0}) Ending) (text : Result (List ℕ) Ending) (kept : Option (List ℕ)) → (answer ≡ Err ends.Mem → ⊥) → IsResumeOutcome S.outside true bytes recorded text kept → RunAnswer S.folder S.output (Some name) text kept answer → Kept answer
+    answered : (answer : Result (Unit {0}) Ending) (text : Result (List ℕ) Ending) (kept : Option (List ℕ)) → (answer ≡ Err ends.Mem → ⊥) → IsResumeOutcome S.outside true bytes (mended recorded) text kept → RunAnswer S.folder S.output (Some name) text kept answer → Kept answer
     answered (Ok done) (Ok text) kept not outcome said = came (Ok done) (Ok text) kept said said.1 (λ wrong. cc) outcome
     answered (Ok done) (Err why) kept not outcome said = absurd said
     answered (Err e) (Ok text) kept not outcome (inl unsaved) = elim unsaved.1.1 [ inl rose ↦ absurd (unrisen rose) | inr mem ↦ absurd (not (ap (λ (x : Ending). Err x) mem)) ]
@@ -137,10 +138,10 @@ module _ (S : Around) (held : Files) (told : S.folder.files ≡ Some held) (scen
     done_keeps : IsDoneOver S (Resume scenario record_ (Some name)) answer → Kept S bytes recorded name answer
     done_keeps d = by d.read d.held d.outcome
       where
-        both : (b r : List ℕ) → b ≡ bytes → r ≡ recorded → IsResumeOutcome S.outside true b r d.text d.kept → Kept S bytes recorded name answer
-        both b r one other outcome = answered S bytes recorded name unrisen answer d.text d.kept not (subst (λ (x : List ℕ). IsResumeOutcome S.outside true bytes x d.text d.kept) other (subst (λ (x : List ℕ). IsResumeOutcome S.outside true x r d.text d.kept) one outcome)) d.ended
+        both : (b r : List ℕ) → b ≡ bytes → r ≡ recorded → IsResumeOutcome S.outside true b (mended r) d.text d.kept → Kept S bytes recorded name answer
+        both b r one other outcome = answered S bytes recorded name unrisen answer d.text d.kept not (subst (λ (x : List ℕ). IsResumeOutcome S.outside true bytes (mended x) d.text d.kept) other (subst (λ (x : List ℕ). IsResumeOutcome S.outside true x (mended r) d.text d.kept) one outcome)) d.ended
 
-        by : (read : List (List ℕ)) → AreHeld S.folder.files (scenario ∷ record_ ∷ []) read → OfTwoBy (IsStudy (map name_of S.outside.kinds)) (λ b r o. IsResumeOutcome S.outside true b r o d.kept) read d.text → Kept S bytes recorded name answer
+        by : (read : List (List ℕ)) → AreHeld S.folder.files (scenario ∷ record_ ∷ []) read → OfTwoBy (IsStudy (map name_of S.outside.kinds)) (λ b r o. IsResumeOutcome S.outside true b (mended r) o d.kept) read d.text → Kept S bytes recorded name answer
         by [] h outcome = absurd outcome
         by (b ∷ []) h outcome = both b recorded (these scenario b bytes there h.0) refl (outcome.1 recorded)
         by (b ∷ r ∷ []) h outcome = both b r (these scenario b bytes there h.0) (these record_ r recorded there_too h.1.0) outcome

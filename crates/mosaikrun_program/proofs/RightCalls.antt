@@ -24,6 +24,7 @@ use Rattle.mk_run.specs.declared.outcome.Outcome.TheVariants as outcome
 use Rattle.mk_run.specs.Ends.{QueuedAll}
 use Rattle.mk_run.proofs.RunRight.{runs_right}
 use Rattle.mk_record.specs.Texts.{record_text}
+use Rattle.mk_record_mend.specs.Mended.{mended}
 use Rattle.mosaikrun_words.specs.declared.request.Request.{Request}
 use Rattle.mosaikrun_words.specs.declared.request.Request.TheVariants.{Files as Reads, Run, Resume, Paced, Demo}
 use Rattle.mosaikrun_endings.specs.declared.ending.Ending.{Ending}
@@ -366,10 +367,10 @@ resume_right C r scenario recorded name d = by d.read d.held d.outcome
     no_study : (bytes : List ℕ) → IsNoStudy C.outside bytes d.text d.kept → NothingWasRun C (status r)
     no_study bytes none = quiet C name d.text d.kept r d.ended none.ending none.is none.idle (fault_status (map name_of C.outside.kinds) bytes none.ending none.cause)
 
-    both : (bytes old : List ℕ) → HasBytes C.folder.files scenario bytes → HasBytes C.folder.files recorded old → IsResumeOutcome C.outside wanted bytes old d.text d.kept → NothingWasRun C (status r) ⊎ IsRightResume C scenario recorded name (status r)
+    both : (bytes old : List ℕ) → HasBytes C.folder.files scenario bytes → HasBytes C.folder.files recorded old → IsResumeOutcome C.outside wanted bytes (mended old) d.text d.kept → NothingWasRun C (status r) ⊎ IsRightResume C scenario recorded name (status r)
     both bytes old h k (inl none) = inl (no_study bytes none)
     both bytes old h k (inr has) = elim has.outcome [
-      | inl none ↦ inl (quiet C name d.text d.kept r d.ended none.ending none.is none.idle (unread_status old none.ending none.cause))
+      | inl none ↦ inl (quiet C name d.text d.kept r d.ended none.ending none.is none.idle (unread_status (mended old) none.ending none.cause))
       | inr rec ↦ inr (record {
         bytes = bytes;
         held = h;
@@ -387,7 +388,7 @@ resume_right C r scenario recorded name d = by d.read d.held d.outcome
         went S ranks old (inr (inl rest)) = inl (not_onward C name d.text d.kept r d.ended S ranks old (inr rest))
         went S ranks old (inr (inr gone)) = inr (onward C name d.text d.kept r d.ended S ranks old gone)
 
-    by : (read : List (List ℕ)) → AreHeld C.folder.files (scenario ∷ recorded ∷ []) read → OfTwoBy (IsStudy (map name_of C.outside.kinds)) (λ bytes old outcome. IsResumeOutcome C.outside wanted bytes old outcome d.kept) read d.text
+    by : (read : List (List ℕ)) → AreHeld C.folder.files (scenario ∷ recorded ∷ []) read → OfTwoBy (IsStudy (map name_of C.outside.kinds)) (λ bytes old outcome. IsResumeOutcome C.outside wanted bytes (mended old) outcome d.kept) read d.text
         → NothingWasRun C (status r) ⊎ IsRightResume C scenario recorded name (status r)
     by [] h outcome = absurd outcome
     by (bytes ∷ []) h outcome = elim (outcome.1 []) [ inl none ↦ inl (no_study bytes none) | inr has ↦ absurd (outcome.0 has.study) ]

@@ -6,6 +6,7 @@ use Rattle.mk_base.proofs.Lists.{some_same}
 use Rattle.mk_outside.specs.Folders.{Files, file_limit}
 use Rattle.mk_local.specs.declared.turn.Turn.{Turn}
 use Rattle.mk_local.specs.Kinds.{name_of}
+use Rattle.mk_record_mend.specs.Mended.{mended}
 use Rattle.mosaikrun_words.specs.declared.request.FileCommand.{FileCommand}
 use Rattle.mosaikrun_words.specs.declared.request.FileCommand.TheVariants.{Replay, Check, Pair}
 use Rattle.mosaikrun_words.specs.declared.request.PairCommand.TheVariants.{Migrate, Watch, Blame}
@@ -177,7 +178,7 @@ row_of kinds rules (Replay name order) = one_row _ (λ bytes o p a b m n. ap out
     never bytes (inl unread) = unread_not_usage bytes unread
     never bytes (inr stopped) = stopped_not_usage bytes order stopped
 row_of kinds rules (Check scenario) = one_row _ (λ bytes o p a b m n. one_status (map name_of kinds) bytes o p a b m n) (λ bytes u. unchecked_not_usage (map name_of kinds) bytes Usage u refl) scenario
-row_of kinds rules (Pair Migrate old new) = one_row _ (λ bytes o p a b m n. ap outcome_status (one_migration bytes o p a b m n)) never old
+row_of kinds rules (Pair Migrate old new) = one_row _ (λ bytes o p a b m n. ap outcome_status (one_migration (mended bytes) o p a b m n)) (λ bytes. never (mended bytes)) old
   where
     never : (bytes : List ℕ) → IsMigration bytes (Err Usage) → ⊥
     never bytes (inl unread) = unread_not_usage bytes unread
@@ -213,8 +214,8 @@ row_over O (Resume scenario recorded saved) = record { next = λ held read befor
   where
     never : (read : List (List ℕ)) (text : Result (List ℕ) Ending) (kept : Option (List ℕ)) → IsOutcomeOver O (Resume scenario recorded saved) read text kept → text ≡ Err Usage → ⊥
     never [] text kept none usage = none
-    never (bytes ∷ []) text kept outcome usage = resume_not_usage O (is_some saved) bytes [] text kept (outcome.1 []) usage
-    never (bytes ∷ old ∷ []) text kept outcome usage = resume_not_usage O (is_some saved) bytes old text kept outcome usage
+    never (bytes ∷ []) text kept outcome usage = resume_not_usage O (is_some saved) bytes (mended []) text kept (outcome.1 []) usage
+    never (bytes ∷ old ∷ []) text kept outcome usage = resume_not_usage O (is_some saved) bytes (mended old) text kept outcome usage
     never (bytes ∷ old ∷ other ∷ more) text kept none usage = none
 row_over O (Paced scenario factor strict saved) = record { next = λ held read before name text kept h k on made comes. next_of_one held _ scenario read before name text h made comes; never = never }
   where

@@ -9,6 +9,7 @@ use Rattle.mosaikrun_words.specs.declared.request.Request.TheVariants.{Files as 
 use Rattle.mosaikrun_words.specs.Requests.{IsRequest}
 use Rattle.mk_local.specs.declared.turn.Turn.{Turn}
 use Rattle.mk_local.specs.Kinds.{name_of}
+use Rattle.mk_record_mend.specs.Mended.{mended}
 use Rattle.mosaikrun_endings.specs.declared.ending.Ending.{Ending}
 use Rattle.mosaikrun_endings.specs.declared.ending.Ending.TheVariants as ends
 use Rattle.mosaikrun_program.specs.Around.{RulesSeen}
@@ -76,12 +77,12 @@ abbrev pub OfTwo : (List ℕ → List ℕ → Result (List ℕ) Ending → Type 
 OfTwo = OfTwoBy IsRecord
 
 -- what a command makes of these files' bytes, the program having these kinds and rules: its text, or
--- why there is none
+-- why there is none. A migration takes a record as it is once mended
 abbrev pub IsOutcomeOf : List Turn → RulesSeen → FileCommand → List (List ℕ)
     → Result (List ℕ) Ending → Type 0
 IsOutcomeOf kinds rules (Replay name order) = OfOne (λ bytes. reports.IsOutcome bytes order)
 IsOutcomeOf kinds rules (Check scenario) = OfOne (checks.IsOutcome (map name_of kinds))
-IsOutcomeOf kinds rules (Pair Migrate old new) = OfOne IsMigration
+IsOutcomeOf kinds rules (Pair Migrate old new) = OfOne (λ bytes. IsMigration (mended bytes))
 IsOutcomeOf kinds rules (Pair Watch name spec) = OfTwo (IsWatchOutcome rules.names rules.folds)
 IsOutcomeOf kinds rules (Pair Blame first second) = OfTwo IsBlameOutcome
 

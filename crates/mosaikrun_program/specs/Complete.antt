@@ -18,6 +18,7 @@ use Rattle.mk_sched.specs.declared.faults.CoreFault.{CoreFault}
 use Rattle.mk_record.specs.Reading.{reading, Said}
 use Rattle.mk_record.specs.Seen.{came}
 use Rattle.mk_record_read.specs.declared.saved.Saved.{Saved}
+use Rattle.mk_record_mend.specs.Mended.{mended}
 use Rattle.mk_record_restored.specs.Restored.{IsFaulted, IsOtherIn}
 use Rattle.mk_resume_loop.specs.declared.ending.ResumeEnd.{ResumeEnd}
 use Rattle.mk_pace_laws.specs.declared.end.Moment.{Moment}
@@ -72,9 +73,9 @@ pub record IsRightRecord (P : Plan) (old : Saved) : Type 0 where
   pub no_fault : (J : List Entry) (f : CoreFault) → IsFaulted P (map came old.arrivals) J f → ⊥
 
 -- nothing went wrong that a run can show which goes on from a record: the bytes are such a scenario,
--- whose handshake shows no fault, and a record, which, where nothing followed the handshake, is right
--- by the plan that its answers make, those of simulators with a link being the first messages that
--- were heard there; and a resumed run shows no fault: each simulator repeats its saved messages, and
+-- whose handshake shows no fault, and, once mended, a record, which, where nothing followed the
+-- handshake, is right by the plan that its answers make, those of simulators with a link being the
+-- first messages that were heard there; and a resumed run shows no fault: each simulator repeats its saved messages, and
 -- then no message is wrong in its place, no limit is met, no link ends, no frame is garbled or too
 -- long, no item is too long for one, no count rises
 pub record IsFaultlessResume (O : Outside) (bytes recorded : List ℕ) : Type 0 where
@@ -86,7 +87,7 @@ pub record IsFaultlessResume (O : Outside) (bytes recorded : List ℕ) : Type 0 
   pub handshake : (any : List ℕ) → AreRanks scenario any
       → IsFaultlessHandshake (attempt_in O scenario any) (HasRisen O.faults O.new_faults)
   pub old : Saved
-  pub old_read : reading recorded ≡ Said old.plan (map came old.arrivals) old.asks
+  pub old_read : reading (mended recorded) ≡ Said old.plan (map came old.arrivals) old.asks
   pub right : (any : List ℕ) (P : Plan) → AreRanks scenario any
       → HasRefused (attempt_in O scenario any) P (HasRisen O.faults O.new_faults)
       → IsRightRecord P old
@@ -97,8 +98,8 @@ pub record IsFaultlessResume (O : Outside) (bytes recorded : List ℕ) : Type 0 
 
 -- a run that goes on from a record's bytes, where nothing goes wrong, comes to its end: its status is
 -- 0, or that of a folder or an output that failed, or of want of memory. Where the bytes of the
--- scenario are refused, as by a run, whatever the record is, or those of the record are no record, it
--- is 3, or one of these
+-- scenario are refused, as by a run, whatever the record is, or those of the record, once mended, are
+-- no record, it is 3, or one of these
 abbrev pub EndsResume : Around → ℕ → Type 0
 EndsResume C n = IfSome C.folder.files (λ held. (scenario recorded : List ℕ)
     (saved : Option (List ℕ)) (bytes : List ℕ) → IsAsked C.words (Resume scenario recorded saved)
@@ -107,7 +108,7 @@ EndsResume C n = IfSome C.folder.files (λ held. (scenario recorded : List ℕ)
     → IsStatusOr 3 n)
     × ((old : List ℕ) → held recorded ≡ Some old → length old ≤ file_limit
     → (IsFaultlessResume C.outside bytes old → IsStatusOr 0 n)
-    × ((e : Ending) → IsUnread old e → (e ≡ ends.Mem → ⊥) → IsStatusOr 3 n)))
+    × ((e : Ending) → IsUnread (mended old) e → (e ≡ ends.Mem → ⊥) → IsStatusOr 3 n)))
 
 -- nothing went wrong, but that a Step may be too late: the bytes are such a scenario, whose handshake
 -- shows no fault, and neither does a paced run of it: no message is wrong in its place, no limit is

@@ -19,6 +19,7 @@ use Rattle.mk_record.specs.Reading.{reading, Said}
 use Rattle.mk_record.specs.Seen.{came}
 use Rattle.mk_record.specs.Texts.{record_text}
 use Rattle.mk_record_read.specs.declared.saved.Saved.{Saved}
+use Rattle.mk_record_mend.specs.Mended.{mended}
 use Rattle.mk_run_laws.specs.Handshake.{sim_link}
 use Rattle.mk_run_laws.specs.Rests.{run_messages}
 use Rattle.mk_run.specs.declared.outcome.Outcome.TheVariants as outcome
@@ -70,7 +71,7 @@ pub record IsNotOnward (C : Around) (S : Scenario) (ranks : List ℕ) (old : Sav
   pub status : n ≡ 0 → ⊥
 
 -- the files of these names, where the folder tells, have bytes that are a scenario, which can be run,
--- and a record; from which the run went on, or it didn't
+-- and, once mended, a record; from which the run went on, or it didn't
 pub record IsRightResume (C : Around) (name recorded : List ℕ) (saved : Option (List ℕ))
     (n : ℕ) : Type 0 where
   pub bytes : List ℕ
@@ -79,7 +80,7 @@ pub record IsRightResume (C : Around) (name recorded : List ℕ) (saved : Option
   pub old_bytes : List ℕ
   pub old_held : HasBytes C.folder.files recorded old_bytes
   pub old : Saved
-  pub read : reading old_bytes ≡ Said old.plan (map came old.arrivals) old.asks
+  pub read : reading (mended old_bytes) ≡ Said old.plan (map came old.arrivals) old.asks
   pub went : IsNotOnward C study.scenario study.ranks old n
       ⊎ IsRightOnward C study.scenario study.ranks old saved n
 
@@ -89,7 +90,7 @@ pub record HoldsNewRecord (S : Around) (answer : Result (Unit {0}) Ending)
     (bytes recorded name : List ℕ) : Type 0 where
   pub study : IsStudy (map name_of S.outside.kinds) bytes
   pub old : Saved
-  pub read : reading recorded ≡ Said old.plan (map came old.arrivals) old.asks
+  pub read : reading (mended recorded) ≡ Said old.plan (map came old.arrivals) old.asks
   pub said : Result (List ℕ) Ending
   pub text : List ℕ
   pub gone : HasGoneOn S.outside true study.scenario study.ranks old said (Some text)
@@ -97,25 +98,25 @@ pub record HoldsNewRecord (S : Around) (answer : Result (Unit {0}) Ending)
   pub answered : RunAnswer S.folder S.output (Some name) said (Some text) answer
   pub filed : S.folder.files_after ≡ option_map (with_file name text) S.folder.files
 
--- the bytes are a scenario, which can be run, and a record, but the handshake ended early, or the record
+-- the bytes are a scenario, which can be run, and, once mended, a record, but the handshake ended early, or the record
 -- wasn't taken, so that there is no new one; what was said of this is what the answer tells
 pub record IsRefused (S : Around) (answer : Result (Unit {0}) Ending)
     (bytes recorded name : List ℕ) : Type 0 where
   pub study : IsStudy (map name_of S.outside.kinds) bytes
   pub old : Saved
-  pub read : reading recorded ≡ Said old.plan (map came old.arrivals) old.asks
+  pub read : reading (mended recorded) ≡ Said old.plan (map came old.arrivals) old.asks
   pub said : Result (List ℕ) Ending
   pub untaken : IsUnrun S.outside study.scenario said None
       ⊎ IsNotTaken S.outside study.scenario study.ranks old said None
   pub answered : RunAnswer S.folder S.output (Some name) said None answer
 
 -- or all files are as before, since the run didn't go on: the bytes are no scenario that can be run,
--- or no record, or it was refused
+-- or no record once mended, or it was refused
 pub record KeepsOldFiles (S : Around) (answer : Result (Unit {0}) Ending)
     (bytes recorded name : List ℕ) : Type 0 where
   pub same : S.folder.files_after ≡ S.folder.files
   pub cause : (IsStudy (map name_of S.outside.kinds) bytes → ⊥)
-      ⊎ ((IsRecord recorded → ⊥) ⊎ IsRefused S answer bytes recorded name)
+      ⊎ ((IsRecord (mended recorded) → ⊥) ⊎ IsRefused S answer bytes recorded name)
 
 -- so it is where the words ask to go on with the run of a scenario from a record, whose files have these
 -- bytes, and give this name for the new record, the folder tells, its count of faults didn't rise,

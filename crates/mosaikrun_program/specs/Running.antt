@@ -6,6 +6,7 @@ use Rattle.mk_outside.specs.Sinks.{TookBeginning, appended}
 use Rattle.mosaikrun_words.specs.declared.request.Request.{Request}
 use Rattle.mosaikrun_words.specs.declared.request.Request.TheVariants.{Files as Reads, Run, Resume, Paced, Demo}
 use Rattle.mk_local.specs.Kinds.{name_of}
+use Rattle.mk_record_mend.specs.Mended.{mended}
 use Rattle.mosaikrun_endings.specs.declared.ending.Ending.{Ending}
 use Rattle.mosaikrun_endings.specs.declared.ending.Ending.TheVariants.{Folder, Mem}
 use Rattle.mosaikrun_run.specs.Outcomes.{IsRunOutcome, Outside}
@@ -16,14 +17,15 @@ use Rattle.mosaikrun_program.specs.Commands.{AreHeld, IsAsked, OfOne, OfTwoBy, f
 use Rattle.mosaikrun_program.specs.Around.{Around, FolderSeen, IsCutBy, IsSaidAs, OutputSeen}
 
 -- what comes of a request over a fleet, its files having these bytes: the text or why there is none,
--- and the record, if there is one
+-- and the record, if there is one. A run that goes on takes its old record as it is once mended
 abbrev pub IsOutcomeOver : Outside → Request → List (List ℕ) → Result (List ℕ) Ending
     → Option (List ℕ) → Type 0
 IsOutcomeOver O (Run scenario name) read text kept =
     OfOne (λ bytes outcome. IsRunOutcome O (is_some name) bytes outcome kept) read text
 IsOutcomeOver O (Resume scenario recorded name) read text kept =
     OfTwoBy (IsStudy (map name_of O.kinds))
-    (λ bytes old outcome. IsResumeOutcome O (is_some name) bytes old outcome kept) read text
+    (λ bytes old outcome. IsResumeOutcome O (is_some name) bytes (mended old) outcome kept) read
+    text
 IsOutcomeOver O (Paced scenario factor strict name) read text kept =
     OfOne (λ bytes outcome. IsPacedOutcome O factor strict (is_some name) bytes outcome kept) read
     text

@@ -4,17 +4,19 @@ ghost use Rattle.mk_local.specs.declared.turn.Turn.{Turn};
 ghost use Rattle.mk_local.specs.Kinds.{name_of};
 ghost use Rattle.mk_local.specs.Registries.{rows_in};
 ghost use Rattle.mk_outside.specs.Counts.{HasRisen};
+ghost use Rattle.mk_record_mend.specs.Mended.{mended};
 ghost use Rattle.mosaikrun_check.specs.Checks as checks;
 ghost use Rattle.mosaikrun_records.specs.Migrations.{IsMigration};
 ghost use Rattle.mosaikrun_records.specs.Reports as reports;
 ghost use Rattle.mosaikrun_words.specs.declared.request.PairCommand.{PairCommand};
 ghost use Rattle.mosaikrun_program.specs.Around.{RulesSeen, rules_seen};
 ghost use Rattle.mosaikrun_program.specs.Commands.{HasBytes, ComesOfFiles, IsStuck, IsUnreadable, target_of};
-ghost use Rattle.mosaikrun_program.specs.inner.Making.{IsMadeOfOne, IsUnmade};
+ghost use Rattle.mosaikrun_program.specs.inner.Making.{IsMadeOfOne, IsMendedFile, IsUnmade};
 
 use mk_base::Text;
 use mk_local::Registry;
 use mk_outside::{FileRead, Folder};
+use mk_record_mend::mend;
 use mk_watch_read::Rules;
 use mosaikrun_blame::blamed;
 use mosaikrun_check::checked;
@@ -130,18 +132,18 @@ fn check_file<D: Folder>(
     checked(alloc, &names, bytes.as_slice())
 }
 
-// The record of a record's replay.
+// The record of a record's replay, which is mended first.
 fn migrate_file<D: Folder>(alloc: Global, old: &str, folder: &mut D) -> Result<Vec<u8>, Ending>
     ensures text { IfOk result (λ text. IsMadeOfOne (D.files folder.old) old.now
-        IsMigration (Ok text.items)) }
+        (λ bytes. IsMigration (mended bytes)) (Ok text.items)) }
     ensures none { IfErr result (λ e. IsStuck (D.files folder.old) (old.now ∷ [])
         (HasRisen (D.faults folder.old) (D.faults folder.new)) e
         ⊎ IsMadeOfOne (D.files folder.old) old.now
-        IsMigration (Err e)) }
+        (λ bytes. IsMigration (mended bytes)) (Err e)) }
     ensures kept { D.files folder.new ≡ D.files folder.old }
     ensures count { D.faults folder.old ≤ D.faults folder.new }
 {
-    let bytes = file_bytes(alloc, folder, old)?;
+    let bytes = record_bytes(alloc, folder, old)?;
     migrated(alloc, bytes.as_slice())
 }
 
@@ -209,6 +211,20 @@ pub fn target_of(command: &FileCommand) -> Option<&str>
             _ => None,
         },
     }
+}
+
+// The bytes of a record's file, mended where the record was cut short; or why there are none.
+pub fn record_bytes<D: Folder>(alloc: Global, folder: &mut D, name: &str) -> Result<Vec<u8>, Ending>
+    ensures read { IfOk result (λ bytes. IsMendedFile (D.files folder.old) name.now bytes.items) }
+    ensures unread { IfErr result
+        (λ e. IsUnreadable (D.files folder.old) name.now
+        (HasRisen (D.faults folder.old) (D.faults folder.new)) e) }
+    ensures kept { D.files folder.new ≡ D.files folder.old }
+    ensures count { D.faults folder.old ≤ D.faults folder.new }
+{
+    let mut bytes = file_bytes(alloc, folder, name)?;
+    mend(&mut bytes)?;
+    Ok(bytes)
 }
 
 // A file's bytes, or why there are none.

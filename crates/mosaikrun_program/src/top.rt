@@ -27,7 +27,7 @@ ghost use Rattle.mosaikrun_program.specs.Running.{IsDoneOver};
 ghost use Rattle.mosaikrun_program.specs.Program.{EndedAs, EndsWith, IsStatusOr, KeepsOthers, TookLine};
 ghost use Rattle.mk_base.specs.Limits.{largest_demo, most_milliseconds};
 
-use crate::commands::{file_bytes, made, target_of};
+use crate::commands::{file_bytes, made, record_bytes, target_of};
 use crate::handing::{hand_out, print};
 use mk_base::Text;
 use mk_local::Registry;
@@ -294,8 +294,8 @@ fn play<D: Folder, F: Fleet, K: Sink, R: Wait>(
     hand_out(told, name, folder, out)
 }
 
-// Reads a scenario's file and then, where it can be run, that of a record, and goes on with the run over the fleet; the
-// new record is saved under the name, if there is one, and the report is printed.
+// Reads a scenario's file and then, where it can be run, that of a record, which is mended, and goes on with the run over
+// the fleet; the new record is saved under the name, if there is one, and the report is printed.
 fn carry_on<D: Folder, F: Fleet, K: Sink, R: Wait>(
     rt: &R,
     alloc: Global,
@@ -321,7 +321,7 @@ fn carry_on<D: Folder, F: Fleet, K: Sink, R: Wait>(
 {
     let bytes = file_bytes(alloc, folder, scenario)?;
     let study = study_of(alloc, kinds, bytes.as_slice())?;
-    let old = file_bytes(alloc, folder, recorded)?;
+    let old = record_bytes(alloc, folder, recorded)?;
     let told = resumed(
         rt,
         alloc,

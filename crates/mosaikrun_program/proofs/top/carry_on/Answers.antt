@@ -6,6 +6,7 @@ use Rattle.mk_outside.specs.Logs.{Adds}
 use Rattle.mk_outside.proofs.OnLogs.{adds_none}
 use Rattle.mk_local.specs.Kinds.{name_of}
 use Rattle.mk_local.specs.Registries.{rows_in}
+use Rattle.mk_record_mend.specs.Mended.{mended}
 use Rattle.mk_scenario.specs.Scenarios.{scenario_of}
 use Rattle.mosaikrun_words.specs.declared.request.Request.TheVariants.{Resume}
 use Rattle.mosaikrun_check.specs.Checks.{IsUnchecked}
@@ -71,7 +72,7 @@ returns-in_err-old-clause-carried g c = λ words rules asked.
       words = words;
       outside = outside g.F.Fleet.started g.F.Fleet.faults (rows_in c.args.kinds.now) c.args.fleet.now c.args.fleet.now [];
       rules = rules;
-      folder = folder_seen g.D.Folder.files g.D.Folder.faults c.args.folder.now c.file_bytes-2.new.folder;
+      folder = folder_seen g.D.Folder.files g.D.Folder.faults c.args.folder.now c.record_bytes.new.folder;
       output = output_seen g.K.Sink.written g.K.Sink.faults g.K.Sink.shortages c.args.out.now c.args.out.now;
     } in
     let e = err_from_is_err_and c.from_residual-in_err-old.result c.from_residual-in_err-old.ensures.1 in
@@ -88,7 +89,7 @@ returns-in_err-old-clause-carried g c = λ words rules asked.
       [],
       adds_none (g.F.Fleet.log c.args.fleet.now),
       subst (λ (r : Result (Unit {0}) Ending). EndedAs S r) (sym (e.1 ∙ ap (λ x. Err x) e.2))
-          (second_stuck S c.args.scenario.now c.args.recorded.now c.args.name.now asked c.in_ok-bytes.bytes.items ending c.in_ok-bytes.ensures.read study cause refl (c.file_bytes-2.ensures.kept ∙ c.file_bytes.ensures.kept) refl refl),
+          (second_stuck S c.args.scenario.now c.args.recorded.now c.args.name.now asked c.in_ok-bytes.bytes.items ending c.in_ok-bytes.ensures.read study cause refl (c.record_bytes.ensures.kept ∙ c.file_bytes.ensures.kept) refl refl),
     )
 
 -- the run goes on
@@ -96,7 +97,7 @@ pub returns-clause-carried : goal.returns-clause-carried
 returns-clause-carried g c = λ words rules asked.
     let kept = option_map (λ r. r.items) c.resumed-told.result.record_text in
     let name = c.args.name.now in
-    let mid = folder_seen g.D.Folder.files g.D.Folder.faults c.file_bytes-2.new.folder c.hand_out.new.folder in
+    let mid = folder_seen g.D.Folder.files g.D.Folder.faults c.record_bytes.new.folder c.hand_out.new.folder in
     let out = output_seen g.K.Sink.written g.K.Sink.faults g.K.Sink.shortages c.args.out.now c.hand_out.new.out in
     let scenario = c.in_ok-study.study.scenario in
     let ranks = c.in_ok-study.study.ranks in
@@ -115,7 +116,7 @@ returns-clause-carried g c = λ words rules asked.
       output = out;
     } in
     let bytes = c.in_ok-bytes.bytes.items in
-    let old = c.in_ok-old.old.items in
+    let old = (c.in_ok-old.ensures.read).held_bytes in
     let study : IsStudy (map name_of (rows_in c.args.kinds.now)) bytes = record {
       scenario = scenario;
       ranks = ranks;
@@ -123,12 +124,12 @@ returns-clause-carried g c = λ words rules asked.
       wellformed = c.in_ok-study.ensures.wellformed;
       runnable = c.in_ok-study.ensures.runnable;
     } in
-    let outcome = subst (λ w. IsStudyOutcome S.outside w scenario ranks old text kept) c.is_some.ensures (subst (λ b. IsStudyOutcome S.outside c.is_some.result scenario ranks b text kept) c.as_slice-2.ensures.value came.2) in
-    let too = subst (λ (f : _). HasBytes f c.args.recorded.now old) c.file_bytes.ensures.kept c.in_ok-old.ensures.read in (
+    let outcome = subst (λ w. IsStudyOutcome S.outside w scenario ranks (mended old) text kept) c.is_some.ensures (subst (λ b. IsStudyOutcome S.outside c.is_some.result scenario ranks b text kept) (c.as_slice-2.ensures.value ∙ (c.in_ok-old.ensures.read).is) came.2) in
+    let too = subst (λ (f : _). HasBytes f c.args.recorded.now old) c.file_bytes.ensures.kept (c.in_ok-old.ensures.read).held in (
       came.0,
       came.1,
       gone_on S c.args.scenario.now c.args.recorded.now name asked c.hand_out.result bytes old c.in_ok-bytes.ensures.read too study text kept outcome
-          (answered_since S.folder mid.files mid.faults (c.file_bytes-2.ensures.kept ∙ c.file_bytes.ensures.kept) (low c.file_bytes.ensures.count c.file_bytes-2.ensures.count) out name text kept c.hand_out.result told.2),
+          (answered_since S.folder mid.files mid.faults (c.record_bytes.ensures.kept ∙ c.file_bytes.ensures.kept) (low c.file_bytes.ensures.count c.record_bytes.ensures.count) out name text kept c.hand_out.result told.2),
     )
 
 -- nothing is done with the fleet where no simulator has a link
