@@ -114,7 +114,7 @@ def class_of(sid: str, name: str) -> type:
         if module == "__main__":
             return getattr(sys.modules["__main__"], path)
         return loaded(name)
-    except (ImportError, AttributeError, ValueError, KeyError) as fault:
+    except Exception as fault:  # whatever the module does when it is loaded
         raise ScenarioError(f"{sid} can't be started: {name}: {type(fault).__name__}: {fault}") from fault
 
 
@@ -155,9 +155,7 @@ class Outside(Handshake):
                 return Link(opened)
             except socket.timeout:
                 if self.child.poll() not in (None, 0):
-                    raise ScenarioError(
-                        f"{self.sid} ended with status {self.child.returncode} before it connected: {shown}"
-                    ) from None
+                    raise ScenarioError(f"{self.sid} ended{self.status()} before it connected: {shown}") from None
         raise ScenarioError(f"{self.sid} did not connect within {seconds:g} seconds: {shown}")
 
     def connect(self, address: str) -> None:
@@ -172,8 +170,16 @@ class Outside(Handshake):
         except RemoteException as fault:
             raise SimulationError(f"{self.sid} failed in {function}: {fault}") from None
         except (OSError, ValueError) as fault:
-            status = f" with status {self.child.returncode}" if self.child and self.child.poll() is not None else ""
-            raise SimulationError(f"{self.sid} ended{status} while it worked on {function}: {fault}") from fault
+            raise SimulationError(f"{self.sid} ended{self.status()} while it worked on {function}: {fault}") from None
+
+    def status(self) -> str:
+        """How the child ended, if it has; its link may end a moment before."""
+        if self.child is None:
+            return ""
+        with contextlib.suppress(subprocess.TimeoutExpired):
+            status = self.child.wait(1.0)
+            return f" by signal {-status}" if status < 0 else f" with status {status}"
+        return ""
 
     def end(self) -> None:
         """Tells the simulator to stop; one that doesn't end in time is ended."""
