@@ -124,6 +124,7 @@ class Outside(Handshake):
     def __init__(self, sid: str, stop_timeout: float) -> None:
         super().__init__(sid)
         self.stop_timeout, self.link, self.child = stop_timeout, None, None
+        self.works = False  # on a request, so that it can't be told to stop
         self.printing: Optional[Printing] = None
         self.guard: Optional[Guard] = None
 
@@ -165,12 +166,16 @@ class Outside(Handshake):
             raise ScenarioError(f"{self.sid}: nobody answers at {address}: {fault}") from fault
 
     def ask(self, function: str, /, *args: Any, **named: Any) -> Any:
+        self.works = True
         try:
-            return self.link.ask(function, args, named)
+            answer = self.link.ask(function, args, named)
         except RemoteException as fault:
+            self.works = False
             raise SimulationError(f"{self.sid} failed in {function}: {fault}") from None
         except (OSError, ValueError) as fault:
             raise SimulationError(f"{self.sid} ended{self.status()} while it worked on {function}: {fault}") from None
+        self.works = False
+        return answer
 
     def status(self) -> str:
         """How the child ended, if it has; its link may end a moment before."""
@@ -182,7 +187,7 @@ class Outside(Handshake):
         return ""
 
     def end(self) -> None:
-        """Tells the simulator to stop; one that doesn't end in time is ended."""
+        """Tells the simulator to stop; one that doesn't end in time, or works on a request, is ended."""
         if self.printing:
             self.printing.prints.quiet = True
         if self.link:
@@ -191,7 +196,7 @@ class Outside(Handshake):
             self.link.close()
             self.link = None
         if self.child and self.child.poll() is None:
-            ended(self.child, self.stop_timeout)
+            ended(self.child, 0 if self.works else self.stop_timeout)
         if self.guard:
             self.guard.dismiss()
             self.guard = None
