@@ -15,6 +15,7 @@ import unittest
 from typing import Any, Dict
 from unittest import mock
 
+import here  # noqa: F401, comes before the package
 import mosaikrun as mosaik
 from mosaikrun import messages, program, study, util
 from mosaikrun.starting import search_path

@@ -19,6 +19,7 @@ import unittest
 from typing import Any, Dict, List
 from unittest import mock
 
+import here  # noqa: F401, comes before the package
 import mosaikrun as mosaik
 import world_sims
 from mosaikrun import carrying, program, running
@@ -342,7 +343,7 @@ class Faults(InAFolder):
     def test_an_address(self) -> None:
         with socket.create_server(("127.0.0.1", 0)) as server:
             address = f"127.0.0.1:{server.getsockname()[1]}"
-        words = [sys.executable, "-m", "mosaikrun.child", "world_sims:Counter", "--remote", address]
+        words = [sys.executable, "-m", "mosaikrun.child", f"{TESTS / 'world_sims.py'}:Counter", "--remote", address]
         over = threading.Event()
 
         def serve(times: int) -> None:
