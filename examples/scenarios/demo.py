@@ -34,7 +34,7 @@ def main():
 
 def create_scenario(world):
     # Start simulators
-    gridsim = world.start("Grid", step_size=15 * 60)
+    gridsim = world.start("Grid", step_size=60 * 60)
     hhsim = world.start("HouseholdSim")
     pvsim = world.start("PV", datafile=PV_DATA)
 

@@ -24,9 +24,9 @@ class GridSim(mosaik_api_v3.Simulator):
 
     def __init__(self):
         super().__init__(META)
-        self.step_size, self.slack, self.buses, self.branches, self.power = 900, "", [], {}, {}
+        self.step_size, self.slack, self.buses, self.branches, self.power = 3600, "", [], {}, {}
 
-    def init(self, sid, time_resolution, step_size=900):
+    def init(self, sid, time_resolution, step_size=3600):
         self.step_size = step_size
         return self.meta
 

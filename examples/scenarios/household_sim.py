@@ -34,7 +34,7 @@ class HouseholdSim(mosaik_api_v3.Simulator):
 
     def step(self, time, inputs, max_advance):
         self.hour = time // 3600 % len(self.rows)
-        return time + 900
+        return time + 3600
 
     def get_data(self, outputs):
         return {eid: {attr: self.value(eid, attr) for attr in attrs} for eid, attrs in outputs.items()}

@@ -26,7 +26,7 @@ class PVSim(mosaik_api_v3.Simulator):
 
     def step(self, time, inputs, max_advance):
         self.hour = time // 3600 % len(self.rows)
-        return time + 900
+        return time + 3600
 
     def get_data(self, outputs):
         power = self.rows[self.hour]
