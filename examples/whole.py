@@ -10,8 +10,10 @@ the scenario and all other simulators have the smaller one: mW where it has W. `
 that aren't named, not of parameters. Without a factor 20.0 becomes 20, and a number with a fraction stays as it is,
 to be refused. A value that is None, NaN or infinite is left out. A time of 15.0 becomes 15.
 """
+import contextlib
 import json
 import math
+import re
 import socket
 import subprocess
 import sys
@@ -131,13 +133,35 @@ def started(words: List[str]) -> Tuple[subprocess.Popen, Link]:
     sys.exit(f"whole.py: {' '.join(words)} did not connect within a minute")
 
 
+def factor_of(word: str) -> Tuple[str, float]:
+    """The attribute and the factor of a word ATTRIBUTE=NUMBER."""
+    name, _, text = word.partition("=")
+    with contextlib.suppress(ValueError):
+        factor = json.loads(text)
+        if name and type(factor) in (int, float) and math.isfinite(factor) and factor != 0:
+            return name, factor
+    sys.exit(f"whole.py: {word} is no factor; a factor is ATTRIBUTE=NUMBER, as P_out=1000")
+
+
+def words_of(words: List[str]) -> Tuple[str, Scale, List[str]]:
+    """The address, the factors, and the simulator's own command; what is wrong with them ends this program."""
+    if "--" not in words:
+        sys.exit("whole.py: -- is missing; it stands between the factors and the simulator's own command")
+    split = words.index("--")
+    before, command = words[:split], words[split + 1 :]
+    if not before or not re.fullmatch(r"\S+:\d+", before[0]):
+        sys.exit("whole.py: the first word has to be the address HOST:PORT, as %(addr)s in a scenario's command")
+    if not any("ADDR" in word for word in command):
+        sys.exit("whole.py: ADDR is missing; it stands where the simulator's own command has its address")
+    factors = dict(factor_of(word) for word in before[1:])
+    return before[0], Scale(factors), command
+
+
 def main() -> None:
-    if "--" not in sys.argv:
+    if sys.argv[1:] in ([], ["-h"], ["--help"]):
         sys.exit(__doc__)
-    split = sys.argv.index("--")
-    address, *factors = sys.argv[1:split]
-    scale = Scale({name: json.loads(factor) for name, factor in (word.split("=") for word in factors)})
-    child, inner = started(sys.argv[split + 1 :])
+    address, scale, command = words_of(sys.argv[1:])
+    child, inner = started(command)
     try:
         relay(connected(address), inner, scale)
     finally:

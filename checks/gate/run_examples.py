@@ -201,7 +201,7 @@ class Checks:
         self.equal("whole.py: *", whole.Scale({"*": 1}).whole("any", 2.6), 3)
         for name, (call, words), want in MESSAGES:
             self.equal(f"whole.py: {name}", getattr(scale, call)(*words), want)
-        words = [sys.executable, "whole.py", "127.0.0.1:1", "--", sys.executable, "-c", "raise SystemExit(3)"]
+        words = [sys.executable, "whole.py", "127.0.0.1:1", "--", sys.executable, "-c", "raise SystemExit(3)", "ADDR"]
         status, _, err = called(words)
         self.equal("whole.py: a simulator that ends", (status, err.split()[-3:]), (1, ["with", "status", "3"]))
 

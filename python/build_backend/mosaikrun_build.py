@@ -30,6 +30,10 @@ PROGRAM = "mosaikrun/bin/mosaikrun"
 NOTICES = "NOTICES"
 # what a source distribution has of this folder
 SOURCES = ("pyproject.toml", "build_backend", "mosaikrun", "tests", NOTICES)
+WITHOUT = (
+    "mosaikrun: the package is built without the program: dist/mosaikrun isn't there, or isn't for this machine. "
+    "Set the variable MOSAIKRUN to the program's path, when it is built or when it is used"
+)
 # the oldest moment that a zip archive can say
 MOMENT = (1980, 1, 1, 0, 0, 0)
 SECONDS = 315532800
@@ -193,8 +197,10 @@ def wheel_tag() -> str:
 
 
 def build_wheel(wheel_directory: str, config_settings: Any = None, metadata_directory: Optional[str] = None) -> str:
-    """Builds the wheel."""
+    """Builds the wheel, and says where it has no program."""
     tag = wheel_tag()
+    if tag == ANY:
+        print(WITHOUT, file=sys.stderr)
     return archived(wheel_directory, package() + info(tag), tag)
 
 

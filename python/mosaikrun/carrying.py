@@ -4,6 +4,7 @@ from __future__ import annotations
 
 import contextlib
 import json
+import numbers
 import os
 import pathlib
 import sys
@@ -44,7 +45,7 @@ def planned(
     record: Union[str, pathlib.Path, None],
 ) -> Plan:
     """Looks whether the run can be had as it is asked for; nothing is started before."""
-    if isinstance(until, bool) or until != int(until) or not 1 <= until <= MOST_TIME:
+    if not is_time(until):
         raise refused(f"until is {until!r}, and not a whole number from 1 to {MOST_TIME}", "What maps to what")
     if not scenario.simulators:
         raise ScenarioError("the scenario has no simulator")
@@ -59,6 +60,12 @@ def planned(
     if not path.parent.is_dir():
         raise ScenarioError(f"the record {path} can't be written: its folder isn't there")
     return Plan(scenario, int(until), "paced" if options else "run", options, path)
+
+
+def is_time(until: Any) -> bool:
+    """Whether a run can end at this time; 10.0 is the time 10."""
+    is_number = isinstance(until, numbers.Real) and not isinstance(until, bool)
+    return is_number and 1 <= until <= MOST_TIME and until == int(until)
 
 
 def milliseconds(number: float, name: str, unit: str) -> int:

@@ -110,9 +110,9 @@ def main() -> None:
         calls, words = json.loads(words[1]), words[2:]
     if len(words) < 2:
         sys.exit(__doc__)
-    # `-m` puts the folder where it began ahead of all others; the script that names the class didn't
+    # `-m` puts the folder where it began ahead of all others; the script that names the class didn't, so it comes last
     if sys.path and sys.path[0] == os.getcwd():
-        del sys.path[0]
+        sys.path.append(sys.path.pop(0))
     importlib.import_module("mosaikrun")
     simulator = loaded(words[0])()
     sys.argv = words

@@ -6,11 +6,11 @@ import contextlib
 import subprocess
 
 # the shell reads from a pipe that nobody writes to, so it goes on when this process is gone
-AT_ONCE = 'read _; kill -KILL -- "-$1"'
+AT_ONCE = 'read _; kill -s KILL -- "-$1"'
 # one simulator is ended first, so that the program saves the record of the run and tells the others to stop
 GENTLY = (
-    'read _; for one in $(cat "/proc/$1/task/$1/children"); do kill -TERM "$one"; break; done; '
-    'left=60; while [ $left -gt 0 ] && kill -0 "$1"; do sleep 1; left=$((left - 1)); done; kill -KILL -- "-$1"'
+    'read _; for one in $(cat "/proc/$1/task/$1/children"); do kill -s TERM "$one"; break; done; '
+    'left=60; while [ $left -gt 0 ] && kill -0 "$1"; do sleep 1; left=$((left - 1)); done; kill -s KILL -- "-$1"'
 )
 
 

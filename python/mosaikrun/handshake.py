@@ -114,7 +114,7 @@ def class_of(sid: str, name: str) -> type:
         if module == "__main__":
             return getattr(sys.modules["__main__"], path)
         return loaded(name)
-    except (ImportError, AttributeError, ValueError, KeyError) as fault:
+    except Exception as fault:  # whatever the module does when it is loaded
         raise ScenarioError(f"{sid} can't be started: {name}: {type(fault).__name__}: {fault}") from fault
 
 
@@ -124,6 +124,7 @@ class Outside(Handshake):
     def __init__(self, sid: str, stop_timeout: float) -> None:
         super().__init__(sid)
         self.stop_timeout, self.link, self.child = stop_timeout, None, None
+        self.works = False  # on a request, so that it can't be told to stop
         self.printing: Optional[Printing] = None
         self.guard: Optional[Guard] = None
 
@@ -155,9 +156,7 @@ class Outside(Handshake):
                 return Link(opened)
             except socket.timeout:
                 if self.child.poll() not in (None, 0):
-                    raise ScenarioError(
-                        f"{self.sid} ended with status {self.child.returncode} before it connected: {shown}"
-                    ) from None
+                    raise ScenarioError(f"{self.sid} ended{self.status()} before it connected: {shown}") from None
         raise ScenarioError(f"{self.sid} did not connect within {seconds:g} seconds: {shown}")
 
     def connect(self, address: str) -> None:
@@ -167,16 +166,28 @@ class Outside(Handshake):
             raise ScenarioError(f"{self.sid}: nobody answers at {address}: {fault}") from fault
 
     def ask(self, function: str, /, *args: Any, **named: Any) -> Any:
+        self.works = True
         try:
-            return self.link.ask(function, args, named)
+            answer = self.link.ask(function, args, named)
         except RemoteException as fault:
+            self.works = False
             raise SimulationError(f"{self.sid} failed in {function}: {fault}") from None
         except (OSError, ValueError) as fault:
-            status = f" with status {self.child.returncode}" if self.child and self.child.poll() is not None else ""
-            raise SimulationError(f"{self.sid} ended{status} while it worked on {function}: {fault}") from fault
+            raise SimulationError(f"{self.sid} ended{self.status()} while it worked on {function}: {fault}") from None
+        self.works = False
+        return answer
+
+    def status(self) -> str:
+        """How the child ended, if it has; its link may end a moment before."""
+        if self.child is None:
+            return ""
+        with contextlib.suppress(subprocess.TimeoutExpired):
+            status = self.child.wait(1.0)
+            return f" by signal {-status}" if status < 0 else f" with status {status}"
+        return ""
 
     def end(self) -> None:
-        """Tells the simulator to stop; one that doesn't end in time is ended."""
+        """Tells the simulator to stop; one that doesn't end in time, or works on a request, is ended."""
         if self.printing:
             self.printing.prints.quiet = True
         if self.link:
@@ -185,7 +196,7 @@ class Outside(Handshake):
             self.link.close()
             self.link = None
         if self.child and self.child.poll() is None:
-            ended(self.child, self.stop_timeout)
+            ended(self.child, 0 if self.works else self.stop_timeout)
         if self.guard:
             self.guard.dismiss()
             self.guard = None

@@ -25,7 +25,10 @@ def find() -> str:
         if not is_program(pathlib.Path(named)):
             raise ProgramMissing(f"{VARIABLE} is {named}, which is no program that can be run")
         return os.path.abspath(named)
-    places = [PACKAGE / "bin" / "mosaikrun", PACKAGE.parents[1] / "dist" / "mosaikrun"]
+    places = [PACKAGE / "bin" / "mosaikrun"]
+    if (PACKAGE.parent / "pyproject.toml").is_file():
+        # the package is used in place
+        places.append(PACKAGE.parents[1] / "dist" / "mosaikrun")
     for place in places:
         if is_program(place):
             return str(place)

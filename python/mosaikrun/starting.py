@@ -72,8 +72,8 @@ class Entry:
         if self.way == "python":
             return {"PYTHONPATH": search_path(), **self.env}
         if "%(python)s" in self.value and not has_api():
-            before = os.environ.get("PYTHONPATH")
-            return {"PYTHONPATH": os.pathsep.join([*([before] if before else []), PACKAGES, STAND_INS]), **self.env}
+            before = [os.path.abspath(place) for place in os.environ.get("PYTHONPATH", "").split(os.pathsep) if place]
+            return {"PYTHONPATH": os.pathsep.join(dict.fromkeys([*before, PACKAGES, STAND_INS])), **self.env}
         return self.env
 
     def advice(self, attr: str) -> str:

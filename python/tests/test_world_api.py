@@ -12,6 +12,7 @@ import threading
 import unittest
 from typing import Any, List
 
+import here  # noqa: F401, comes before the package
 from mosaikrun import api, child
 
 TESTS = pathlib.Path(__file__).resolve().parent

@@ -15,6 +15,7 @@ import unittest
 from typing import Any, Dict
 from unittest import mock
 
+import here  # noqa: F401, comes before the package
 import mosaikrun as mosaik
 from mosaikrun import messages, program, study, util
 from mosaikrun.starting import search_path
@@ -296,8 +297,8 @@ class Connected(Built):
         return [(told["from"], told["to"]) for told in self.world.scenario.connections]
 
     def test_the_text_has_all_that_was_told(self) -> None:
-        program, total = self.world.start("Program", step_size=2), self.world.start("Sum")
-        many = program.Model.create(2, value=5)
+        sim, total = self.world.start("Program", step_size=2), self.world.start("Sum")
+        many = sim.Model.create(2, value=5)
         one = total.Sum(bias=-3)
         self.world.connect(many[0], one, ("out", "in"))
         self.world.connect(many[0].children[0], one, ("out", "in"), time_shifted=3, initial_data={"out": [1, "a\x7f"]})
@@ -316,7 +317,7 @@ class Connected(Built):
             self.world.write(path, until=96)
             self.assertEqual(path.read_text(encoding="utf-8"), text)
             done = subprocess.run(
-                [os.environ["MOSAIKRUN"], "check", str(path)], capture_output=True, text=True, check=False
+                [program.find(), "check", str(path)], capture_output=True, text=True, check=False
             )
         wanted = "sims 2\ngroups 2\nblocks 4\norder Program-0 Sum-0\n"
         self.assertEqual((done.returncode, done.stdout, done.stderr), (0, wanted, ""))

@@ -19,6 +19,7 @@ import unittest
 from typing import Any, Dict, List
 from unittest import mock
 
+import here  # noqa: F401, comes before the package
 import mosaikrun as mosaik
 import world_sims
 from mosaikrun import carrying, program, running
@@ -44,6 +45,16 @@ def awaited(condition: Any) -> bool:
     while not condition() and time.monotonic() < end:
         time.sleep(0.02)
     return bool(condition())
+
+
+def served(room: pathlib.Path) -> List[str]:
+    """The simulators of a script of this folder that still run: they have the folder's name in a variable."""
+    mark, found = f"PWD={room}".encode(), []
+    for folder in pathlib.Path("/proc").glob("[0-9]*"):
+        with contextlib.suppress(OSError):
+            if mark in (folder / "environ").read_bytes().split(b"\0") and is_alive(int(folder.name)):
+                found.append((folder / "cmdline").read_bytes().replace(b"\0", b" ").decode())
+    return found
 
 
 class InAFolder(unittest.TestCase):
@@ -75,7 +86,7 @@ class InAFolder(unittest.TestCase):
 
     def script(self, file: pathlib.Path, **env: str) -> subprocess.CompletedProcess:
         words = [sys.executable, str(file)]
-        told = {**os.environ, **env}
+        told = {**os.environ, "PWD": str(self.room), **env}
         return subprocess.run(words, env=told, capture_output=True, text=True, timeout=SECONDS, check=False)
 
 
@@ -298,6 +309,29 @@ class Faults(InAFolder):
         self.assertRegex(fault.line, r"connect 1: Chance-0\.\d+")
         self.assertIn("has to give the same entities each time", str(fault))
 
+    def test_a_program_that_dies_in_the_handshake(self) -> None:
+        told = {"cmd": "%(python)s world_sims.py %(addr)s", "cwd": str(TESTS), "env": {"SIM_CLASS": "Unborn"}}
+        with mosaik.World({"Unborn": told}) as world:
+            unborn = world.start("Unborn")
+            with self.assertRaisesRegex(mosaik.SimulationError, "Unborn-0 ended with status 7 while it worked on create"):
+                unborn.Model()
+
+    def test_a_script_whose_class_can_not_be_imported(self) -> None:
+        code = "import mosaikrun as mosaik\nworld = mosaik.World({CONFIG})\n"
+        code += "world.start('Program')\nworld.start('Gone')\n"
+        program_of = {"cmd": "%(python)s world_sims.py %(addr)s", "cwd": str(TESTS)}
+        pathlib.Path("broken.py").write_text("1 +\n", encoding="utf-8")
+        for name, said in (
+            ("nowhere:Sim", "Gone-0 can't be started: nowhere:Sim: ModuleNotFoundError: No module named 'nowhere'"),
+            ("broken:Sim", "Gone-0 can't be started: broken:Sim: SyntaxError: invalid syntax (broken.py, line 1)"),
+        ):
+            config = {"Program": program_of, "Gone": {"python": name}}
+            pathlib.Path("script.py").write_text(code.replace("{CONFIG}", repr(config)), encoding="utf-8")
+            done = self.script(self.room / "script.py")
+            self.assertEqual(done.returncode, 1)
+            self.assertEqual(done.stderr.splitlines()[-1], f"mosaikrun.errors.ScenarioError: {said}")
+            self.assertEqual(served(self.room), [], "a process is left behind")
+
     def test_an_exception_in_the_block(self) -> None:
         config = {"Program": {"cmd": "%(python)s world_sims.py %(addr)s", "cwd": str(TESTS)}}
         with self.assertRaises(KeyError):
@@ -309,7 +343,7 @@ class Faults(InAFolder):
     def test_an_address(self) -> None:
         with socket.create_server(("127.0.0.1", 0)) as server:
             address = f"127.0.0.1:{server.getsockname()[1]}"
-        words = [sys.executable, "-m", "mosaikrun.child", "world_sims:Counter", "--remote", address]
+        words = [sys.executable, "-m", "mosaikrun.child", f"{TESTS / 'world_sims.py'}:Counter", "--remote", address]
         over = threading.Event()
 
         def serve(times: int) -> None:
@@ -351,19 +385,23 @@ class Interrupted(InAFolder):
 import os, sys
 sys.path.insert(0, sys.argv[1])
 import mosaikrun as mosaik
-world = mosaik.World({"Slow": {"python": "world_sims:Slow"}, "Sink": {"python": "world_sims:Sink"}})
+sleeping = {"cmd": "%(python)s world_sims.py %(addr)s", "cwd": sys.argv[1], "env": {"SIM_CLASS": "Sleeping"}}
+config = {"Slow": {"python": "world_sims:Slow"}, "Sink": {"python": "world_sims:Sink"}, "Sleeping": sleeping}
+world = mosaik.World(config)
+if sys.argv[2:] == ["sleep"]:
+    world.start("Sleeping").Model()
 slow, sink = world.start("Slow").Model(), world.start("Sink").Sink()
 world.connect(slow, sink, "out")
-if len(sys.argv) > 2:
+if sys.argv[2:] == ["fail"]:
     raise ValueError("of the script itself")
 world.run(until=5)
 """
 
     def started(self, *words: str) -> subprocess.Popen:
         pathlib.Path("script.py").write_text(self.SCRIPT, encoding="utf-8")
-        env = {**os.environ, "STEPPED": str(self.room / "stepped")}
-        outputs = {"stdout": subprocess.PIPE, "stderr": subprocess.PIPE, "text": True}
-        script = subprocess.Popen([sys.executable, "script.py", str(TESTS), *words], env=env, **outputs)
+        env = {**os.environ, "STEPPED": str(self.room / "stepped"), "PWD": str(self.room)}
+        how = {"stdout": subprocess.PIPE, "stderr": subprocess.PIPE, "text": True, "start_new_session": True}
+        script = subprocess.Popen([sys.executable, "script.py", str(TESTS), *words], env=env, **how)
         self.addCleanup(script.kill)
         return script
 
@@ -379,10 +417,12 @@ world.run(until=5)
             with self.subTest(number=number):
                 script = self.started()
                 child = self.stepping(script)
-                script.send_signal(number)
+                # as a terminal does it: to the script and to whatever is in its group
+                os.killpg(script.pid, number)
                 out, err = script.communicate(timeout=SECONDS)
                 self.assertEqual(script.returncode, status, err)
                 self.assertFalse(is_alive(child))
+                self.assertEqual(served(self.room), [], "a process is left behind")
                 goes_on = "mosaikrun: the run was ended; its record is script.record; it goes on by: mosaikrun resume"
                 self.assertIn(goes_on, err)
                 self.assertRegex(out, r"\[Sink-0\] \d came")  # it was told to stop
@@ -390,6 +430,18 @@ world.run(until=5)
                 self.assertEqual(len([line for line in record if line.startswith("ask [0,")]), 3)
                 self.assertEqual(record[-1].split()[0], "end")
                 os.remove("script.record")
+                os.remove("stepped")
+
+    def test_interrupt_while_the_scenario_is_built(self) -> None:
+        for number in (signal.SIGINT, signal.SIGTERM):
+            with self.subTest(number=number):
+                script = self.started("sleep")
+                child = self.stepping(script)
+                os.killpg(script.pid, number)
+                _, err = script.communicate(timeout=SECONDS)
+                self.assertEqual(script.returncode, -number, err)
+                self.assertTrue(awaited(lambda: served(self.room) == []), served(self.room))
+                self.assertFalse(is_alive(child))
                 os.remove("stepped")
 
     def test_a_script_that_is_killed_at_once(self) -> None:

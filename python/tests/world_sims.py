@@ -113,6 +113,22 @@ class Slow(Counter):
         return time_now + 1
 
 
+class Unborn(Counter):
+    """Ends its process while it creates entities."""
+
+    def create(self, num, model, value=0):
+        os._exit(7)
+
+
+class Sleeping(Counter):
+    """Says that it creates entities, and then works for a long time."""
+
+    def create(self, num, model, value=0):
+        with open(os.environ["STEPPED"], "w", encoding="utf-8") as file:
+            file.write(str(os.getpid()))
+        time.sleep(600)
+
+
 class Asking(Counter):
     """Asks for the value of another in each step, and sets its input."""
 
