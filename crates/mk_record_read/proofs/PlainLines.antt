@@ -1,14 +1,13 @@
 -- What is written plainly is read as it stands.
-use Rattle.std.proofs.Common.{◌≡◌, ℕ, ℤ, suc, pred, max, ◌<◌, ◌≤◌, ◌^◌, ◌++◌, ◌&&◌, pos, nat_abs, true, List, [], ◌∷◌, length, map, Some, Ok, option_and_then, int_le, int_lt, decimal, refl, sym, ap, ap₂, ◌∙◌, subst, arith, append_assoc}
+use Rattle.std.proofs.Common.{◌≡◌, ℕ, ℤ, suc, ◌<◌, ◌≤◌, ◌^◌, pos, true, List, [], ◌∷◌, length, map, Some, Ok, option_and_then, decimal, refl, sym, ap, ap₂, ◌∙◌, subst, arith}
 use Rattle.std.proofs.lemmas.Bool.{and_from}
 use Rattle.std.proofs.lemmas.Int.{ints}
 use Rattle.std.specs.List.{list_all}
-use Rattle.std.specs.Result.{result_ok}
 use Rattle.mk_base.specs.declared.json.Json as tree
 use Rattle.mk_base.specs.declared.json.Json.{Json}
 use Rattle.mk_base.specs.Proper.{is_proper}
 use Rattle.mk_base.specs.Texts.{text_of, list_text}
-use Rattle.mk_base.specs.Trees.{is_in_range, items_in, whole_in, nesting}
+use Rattle.mk_base.specs.Trees.{is_in_range, items_in, nesting}
 use Rattle.mk_base.proofs.Counts.{pos_in_range}
 use Rattle.mk_base.proofs.Views.{items_in_list, whole_in_whole}
 use Rattle.mk_json.specs.Parsed.{parsed}
