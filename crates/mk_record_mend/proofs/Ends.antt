@@ -1,13 +1,13 @@
 -- The text that is made of bytes whose last line feed stands at a known place.
-use Rattle.std.proofs.Common.{◌≡◌, ℕ, ◌+◌, ◌-◌, ◌≤◌, Bool, true, false, cond, List, [], ◌∷◌, ◌++◌, length, length-append, length-drop, Option, Some, None, take, drop, refl, sym, ap, ◌∙◌, subst, arith, append_assoc}
+use Rattle.std.proofs.Common.{◌≡◌, ℕ, ◌+◌, ◌-◌, ◌≤◌, Bool, true, false, cond, List, [], ◌∷◌, ◌++◌, length, length-append, length-drop, Some, None, take, drop, sym, ap, ◌∙◌, subst, arith, append_assoc}
 use Rattle.std.specs.Prelude.{codes}
 use Rattle.std.specs.Fmt.{decimal}
 use Rattle.std.specs.List.{filter, slice_split}
 use Rattle.std.proofs.lemmas.List.{take_all, take_at}
 use Rattle.std.proofs.Math.Seq.{drop-append_seam}
 use Rattle.mk_record_read.specs.Reading.{is_feed}
-use Rattle.mk_record_mend.specs.Mended.{end_line, ends_in_entry, is_entry, mended, whole_lines}
-use Rattle.mk_record_mend.specs.inner.Feeds.{HasNoFeed, IsLastFeed}
+use Rattle.mk_record_mend.specs.Mended.{ends_in_entry, is_entry, mended, whole_lines}
+use Rattle.mk_record_mend.specs.inner.Feeds.{IsLastFeed}
 use Rattle.mk_record_mend.proofs.Counting.{first_counts}
 use Rattle.mk_record_mend.proofs.Pieces.{is_left, last_is, lines_of_cut, mended_cut, no_lines, split_clean, split_feed}
 
