@@ -72,9 +72,6 @@ pub record Counts (lines rest : List ℕ) (count : ℕ) : Type 0 where
   pub all : count + length (filter is_entry (slice_split is_feed rest)) ≡ length (filter is_entry (slice_split is_feed lines))
   pub low : count + length rest ≤ length lines
 
-pub counts_first : (lines : List ℕ) → Counts lines lines 0
-counts_first lines = record { all = omega arith; low = omega arith }
-
 pub counts_next : (lines rest : List ℕ) (count n one : ℕ) → Counts lines rest count → IsLastFeed rest (Some n) → one ≡ cond (is_entry (take (length rest - (n + 1)) (drop (n + 1) rest))) 1 0 → Counts lines (take n rest) (count + one)
 counts_next lines rest count n one k t is =
     let piece : take (length rest - (n + 1)) (drop (n + 1) rest) ≡ t.1 = rest_is rest (n + 1) ∙ ap (drop (n + 1)) t.2 ∙ dropped t.0 t.1 n t.3 in
