@@ -112,7 +112,19 @@ CALL(ssize_t, sendto, (int file, const void *data, size_t length, int flags, con
      (file, data, at_most(length), flags, to, size))
 CALL(ssize_t, sendmsg, (int file, const struct msghdr *message, int flags), (file, message, flags))
 CALL(ssize_t, recvmsg, (int file, struct msghdr *message, int flags), (file, message, flags))
-CALL(int, close, (int file), (file))
+
+// the system closes a file also where it then tells of an error
+int close(int file) {
+    static int (*next)(int);
+    static int place;
+    if (!next) {
+        next = (int (*)(int))dlsym(RTLD_NEXT, "close");
+        place = place_of("close");
+    }
+    int closed = next(file);
+    return fails(place) ? -1 : closed;
+}
+
 CALL(int, fsync, (int file), (file))
 CALL(int, fdatasync, (int file), (file))
 CALL(int, fstat, (int file, struct stat *seen), (file, seen))

@@ -274,6 +274,16 @@ def fault_of(raw: bytes) -> Fault:
     return len(pieces), EARLY
 
 
+def full_ids(raw: bytes) -> set[str]:
+    """Returns the full ids of the entities of a right record."""
+    reader = Reader()
+    for line in raw.split(b"\n")[:-1]:
+        if line.startswith((b"ask ", b"got ", b"end ")):
+            break
+        reader.line(line)
+    return {f"{reader.sims[reader.models[model][0]][0]}.{eid}" for model, eid, _ in reader.entities}
+
+
 def mended(raw: bytes) -> bytes:
     """Returns the record that a cut one is read as, where a program goes on with cut records; else the bytes."""
     whole = raw.split(b"\n")[:-1]

@@ -10,6 +10,7 @@ from .corpus import Corpus, is_inside
 from .driving import NOT_RUN, SIGNALLED, TIMED_OUT, Job, Ran, Step
 from .mutations import mutated
 from .record_model import fault_of, line_of, mended
+from .toml_model import check_of, watch_of
 
 LINES = {
     2: rb"usage: .*",
@@ -161,6 +162,11 @@ def watch_wrong(trial: Trial, rules: Rules, rans: list[Ran]) -> list[str]:
     fault = fault_of(trial.files[b"r"])
     if fault:
         return same("model of watch", rans[1], 3, line_of(fault))
+    line = watch_of(trial.files[b"r"], trial.files[b"w"])
+    if line:
+        return same("model of watches", rans[1], 3, line)
+    if line == b"" and rans[1].status == 3:
+        return [f"model of watches: {rans[1].err[:99]!r} where none was due"]
     return as_before("watch", rans[1], rans[0]) if rans[0].status and rans[1].status != 3 else []
 
 
@@ -174,8 +180,10 @@ def scenario_steps(trial: Trial, rules: Rules) -> tuple[Step, ...]:
 
 
 def scenario_wrong(trial: Trial, rules: Rules, rans: list[Ran]) -> list[str]:
-    if len(rans) == 1:
-        return []
+    said = check_of(trial.files[b"s"])
+    wrong = same("model of check", rans[0], 3 if said[1] else 0, said[1], said[0]) if said else []
+    if wrong or len(rans) == 1:
+        return wrong
     checked, ran, replayed, resumed = rans
     if checked.status:
         return as_before("run", ran, checked)
