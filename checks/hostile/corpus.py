@@ -9,7 +9,7 @@ from typing import Iterator
 
 from .driving import Driver, Job, Step
 
-LONGEST = 1 << 16
+LONGEST, LATEST = 1 << 16, 1000
 OUTSIDE = re.compile(rb"command|connect[\"' \t]*=[ \t]*[\"']")
 UNTIL = re.compile(rb"^until[ \t]*=[ \t]*([0-9]{1,4})[ \t]*$", re.MULTILINE)
 ROLES = {
@@ -25,10 +25,15 @@ ROLES = {
 TAKING = ("--order", "--record", "--strict")
 
 
+def ends_within(scenario: bytes, most: int) -> bool:
+    """Returns whether the run of a scenario ends at this time at the latest."""
+    found = UNTIL.findall(scenario)
+    return len(found) == 1 and int(found[0]) <= most
+
+
 def is_inside(scenario: bytes) -> bool:
     """Returns whether a scenario starts no program, connects to nothing, and ends soon."""
-    found = UNTIL.search(scenario)
-    return bool(found) and int(found.group(1)) <= 1000 and not OUTSIDE.search(scenario)
+    return ends_within(scenario, LATEST) and not OUTSIDE.search(scenario)
 
 
 def cases_file(checks: pathlib.Path) -> pathlib.Path:

@@ -10,7 +10,7 @@ import time
 from typing import NamedTuple
 
 from .corpus import Corpus
-from .driving import Driver, Job, Step
+from .driving import NOT_RUN, Driver, Job, Step
 from .shrinking import as_cases, complaint, shrunk
 from .trials import Rules, drawn, job_of, wrong_of
 
@@ -63,7 +63,7 @@ def tried(share: Share) -> Told:
         trial = drawn(rng, corpus)
         job = job_of(trial, rules)
         rans = driver.run(job)
-        statuses.update((step.words[0].decode(), ran.status) for step, ran in zip(job.steps, rans))
+        statuses.update((step.words[0].decode(), ran.status) for step, ran in zip(job.steps, rans) if ran.status != NOT_RUN)
         found = wrong_of(trial, rules, job, rans)
         if found:
             kinds[complaint(found[0])] += 1

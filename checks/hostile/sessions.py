@@ -59,6 +59,9 @@ class Hostile(Honest):
             wire.say(piece)
         self.finish(wire, self.act)
 
+    def is_answered(self) -> bool:
+        return self.act is not None
+
     def content(self, function: str, arguments: list):
         if function == "step":
             self.last_time = arguments[0]

@@ -3,12 +3,13 @@
 from __future__ import annotations
 
 import json
+import time
 from typing import Callable
 
 from .driving import NOT_RUN, Driver
 from .trials import Rules, Trial, job_of, wrong_of
 
-MOST = 3000
+SECONDS = 30
 
 
 def complaint(text: str) -> str:
@@ -38,12 +39,11 @@ def least(pieces: list[bytes], is_wrong: Callable[[bytes], bool]) -> list[bytes]
 
 
 def shrunk(driver: Driver, rules: Rules, trial: Trial, found: str) -> Trial:
-    """Returns a least trial that is wrong in the same way."""
-    left = [MOST]
+    """Returns a least trial that is wrong in the same way, or what half a minute comes to."""
+    end = time.monotonic() + SECONDS
 
     def is_wrong(tried: Trial) -> bool:
-        left[0] -= 1
-        if left[0] < 0:
+        if time.monotonic() > end:
             return False
         job = job_of(tried, rules)
         return complaint(found) in map(complaint, wrong_of(tried, rules, job, driver.run(job)))

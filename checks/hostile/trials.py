@@ -6,7 +6,7 @@ import random
 import re
 from typing import Callable, NamedTuple, Optional
 
-from .corpus import Corpus, is_inside
+from .corpus import Corpus, ends_within, is_inside
 from .driving import NOT_RUN, SIGNALLED, TIMED_OUT, Job, Ran, Step
 from .mutations import mutated
 from .record_model import fault_of, line_of, mended
@@ -14,15 +14,15 @@ from .toml_model import check_of, watch_of
 
 LINES = {
     2: rb"usage: .*",
-    3: rb"(?:scenario (?:10|[1-9]): .*|record: line \d+ fault [1-6]|watch [1-7]: .*|connect 8: cycle .*|launch [1-4]: .*)",
-    4: rb"(?:meta [1-6]: .*|create [1-6]: .*|connect (?:[1-7]|9): .*|setup: .*)",
-    5: rb"(?:run (?:[1-35]|[689]|1[0-2]|7): .*)",
-    7: rb"limit: (?:\d+ entries|.* message of \d+ bytes)",
+    3: rb"(?:scenario (?:10|[1-9])|watch [1-7]|connect 8|launch [1-4]): .*|record: line \d+ fault [1-6]",
+    4: rb"(?:meta [1-6]|create [1-6]|connect (?:[1-7]|9)|setup): .*",
+    5: rb"run (?:[1-35-9]|1[0-2]): .*",
+    7: rb"limit: \d+ entries|limit: .* message of \d+ bytes",
 }
-PATTERNS = {status: re.compile(rb"mosaikrun: " + line + rb"\n", re.DOTALL) for status, line in LINES.items()}
+PATTERNS = {status: re.compile(rb"mosaikrun: (?:" + line + rb")\n", re.DOTALL) for status, line in LINES.items()}
 STATUSES = {b"replay": (3, 5, 7), b"migrate": (3, 5, 7), b"watch": (3, 5, 7), b"blame": (3, 5, 7), b"check": (3,)}
 STATUSES.update({b"run": (3, 4, 5, 7), b"resume": (3, 4, 5, 7), b"paced": (3, 4, 5, 7)})
-SPACE, TIMES, OF_RUN = 64 << 10, 50, 2 << 20
+SPACE, TIMES, OF_RUN, SOON = 64 << 10, 50, 2 << 20, 20
 Files = dict[bytes, bytes]
 
 
@@ -50,7 +50,7 @@ def of_run(step: Step, ran: Ran, files: Files) -> list[str]:
     if ran.status >= SIGNALLED:
         return [f"{word}: signal {ran.status - SIGNALLED}"]
     wrong = []
-    allowed = OF_RUN if step.words[0] in (b"run", b"resume") else SPACE
+    allowed = OF_RUN if step.words[0] in (b"run", b"resume", b"paced") else SPACE
     size = sum(len(data) for name, data in files.items() if name in step.words)
     if ran.memory > allowed + TIMES * size // 1024:
         wrong.append(f"{word}: memory {ran.memory} KiB of {size} bytes")
@@ -176,7 +176,8 @@ def scenario_steps(trial: Trial, rules: Rules) -> tuple[Step, ...]:
         return (check,)
     run = Step((b"run", b"s", b"--record", b"q"), keep=(b"q",))
     again = (Step((b"replay", b"q"), 0), Step((b"resume", b"s", b"q", b"--record", b"t"), 0, (b"t",)))
-    return (check, run, *again)
+    by_clock = (Step((b"paced", b"s", b"1"), 0),) if ends_within(trial.files[b"s"], SOON) and trial.drawn % 8 == 0 else ()
+    return (check, run, *again, *by_clock)
 
 
 def scenario_wrong(trial: Trial, rules: Rules, rans: list[Ran]) -> list[str]:
@@ -184,13 +185,14 @@ def scenario_wrong(trial: Trial, rules: Rules, rans: list[Ran]) -> list[str]:
     wrong = same("model of check", rans[0], 3 if said[1] else 0, said[1], said[0]) if said else []
     if wrong or len(rans) == 1:
         return wrong
-    checked, ran, replayed, resumed = rans
+    checked, ran, replayed, resumed, *by_clock = rans
     if checked.status:
         return as_before("run", ran, checked)
     wrong = [f"run: {ran.err[:99]!r} where check has none"] if ran.status == 3 else []
     if ran.status == 0:
         wrong += as_before("replay of a run", replayed, ran) + as_before("resume of a run", resumed, ran)
-        wrong += ["resume: another record"] if resumed.files[b"t"] is None else []
+        wrong += ["resume: saves no record"] if resumed.files[b"t"] is None else []
+        wrong += [text for paced in by_clock for text in as_before("paced", paced, ran)]
     return wrong
 
 

@@ -89,6 +89,8 @@ class Honest:
             if heard is None:
                 return
             kind, number, content = heard
+            if kind != 0 and self.is_answered():
+                continue
             if self.stopped or kind != 0 or number != len(self.heard):
                 self.wrong.append(f"{self.name} was sent {json.dumps(heard)[:99]}")
             self.heard.append(content[0])
@@ -96,6 +98,10 @@ class Honest:
                 self.stopped = True
             else:
                 self.answer(wire, number, content)
+
+    def is_answered(self) -> bool:
+        """Returns whether it may be sent an answer: whether it has asked."""
+        return False
 
     def reply(self, number: int, content: list) -> bytes:
         """Returns the frame that answers a request."""
