@@ -15,7 +15,7 @@ MEGABYTE = 1 << 20
 
 
 class Moment(NamedTuple):
-    """A request to the hostile simulator: its name, id, whether it is the last, the step's time, and a right answer's frame."""
+    """A request to a simulator: its name and id, whether it is the last, the step's time, and a right answer's frame."""
 
     sim: str
     function: str
@@ -31,9 +31,10 @@ class Moment(NamedTuple):
 
 
 class Act(NamedTuple):
-    """What is said, in pieces; what comes behind it; and the lines that may come, None for a run that ends as it should.
+    """What is said, in pieces; what comes behind it; and the lines that may come, None for a run that ends well.
 
-    Behind it the link is closed (`close`), the simulator goes on (`go`), or it is silent for a while and then says the rest.
+    Behind it the link is closed (`close`), the simulator goes on (`go`), or it is silent for a while (`late close`) or
+    until it says the rest (`rest`).
     """
 
     pieces: list[bytes]
@@ -64,11 +65,13 @@ def cut_once(rng: random.Random, moment: Moment) -> Act:
 
 
 def half_and_close(rng: random.Random, moment: Moment) -> Act:
-    return Act([moment.right[: rng.randrange(len(moment.right))]], "late close", [f"run 5: {moment.sim} closed its link"])
+    some = moment.right[: rng.randrange(len(moment.right))]
+    return Act([some], "late close", [f"run 5: {moment.sim} closed its link"])
 
 
 def long_frame(rng: random.Random, moment: Moment) -> Act:
-    length = rng.choice((GREATEST + 1, 2**31, 2**32 - 1, int.from_bytes(b"HTTP", "big"), rng.randrange(GREATEST + 1, 2**32)))
+    known = (GREATEST + 1, 2**31, 2**32 - 1, int.from_bytes(b"HTTP", "big"))
+    length = rng.choice((*known, rng.randrange(GREATEST + 1, 2**32)))
     return Act([length.to_bytes(4, "big") + b"[1,"], "go", [f"run 7: {moment.sim} frame of {length} bytes"])
 
 
@@ -136,7 +139,8 @@ def contents(moment: Moment) -> list[tuple[Any, str]]:
     metas += [(dict(third, type="odd"), f"meta 3: {sim} odd"), (third, f"meta 4: {sim}")]
     metas += [(dict(third, models={"M": 7}), f"meta 5: {sim} M ")]
     made = {"eid": "e", "type": "M"}
-    creates = [([], f"create 1: {sim} 1 0"), (["x" * MEGABYTE], f"create 2: {sim} 0"), ([{"eid": "time"}], f"create 2: {sim} 0")]
+    creates = [([], f"create 1: {sim} 1 0"), (["x" * MEGABYTE], f"create 2: {sim} 0")]
+    creates += [([{"eid": "time"}], f"create 2: {sim} 0")]
     creates += [([dict(made, type="N")], f"create 4: {sim} e"), ([dict(made, rel=["f"])], f"create 5: {sim} e f")]
     steps = [(None, 4), (moment.time, 3), (-1, 3), (1.5, 2), ("x" * MEGABYTE, 2), (10**18 + 1, 2), ([], 2), (True, 2)]
     deep: Any = 0

@@ -1,7 +1,7 @@
 // A child program whose link another program serves: child HOST:PORT SOCKET NAME [STATUS]
 //
-// It connects to the address, hands the link over the local socket together with its name, the address and how many files it
-// was started with, and waits until that socket is closed. With STATUS it ends with this one at once.
+// It connects to the address, hands the link over the local socket together with its name, the address and how many
+// files it was started with, and waits until that socket is closed. With STATUS it ends with this one at once.
 #include <arpa/inet.h>
 #include <netinet/in.h>
 #include <stdio.h>
@@ -32,7 +32,9 @@ static int handed(const char *place, int link, const char *line) {
     struct sockaddr_un at = {.sun_family = AF_UNIX};
     char control[CMSG_SPACE(sizeof link)] = {0};
     struct iovec piece = {(void *)line, strlen(line)};
-    struct msghdr message = {.msg_iov = &piece, .msg_iovlen = 1, .msg_control = control, .msg_controllen = sizeof control};
+    struct msghdr message = {.msg_iov = &piece, .msg_iovlen = 1};
+    message.msg_control = control;
+    message.msg_controllen = sizeof control;
     struct cmsghdr *head = CMSG_FIRSTHDR(&message);
     int other = socket(AF_UNIX, SOCK_STREAM, 0);
     strncpy(at.sun_path, place, sizeof at.sun_path - 1);

@@ -117,7 +117,7 @@ static uint32_t run(const char *program, char **words, int *files, unsigned seco
     figures[0] = used.ru_maxrss;
     figures[1] = (after.tv_sec - before.tv_sec) * 1000 + (after.tv_nsec - before.tv_nsec) / 1000000;
     if (timed_out) return TIMED_OUT;
-    return WIFSIGNALED(status) ? SIGNALLED + WTERMSIG(status) : (uint32_t)WEXITSTATUS(status);
+    return WIFSIGNALED(status) ? SIGNALLED + WTERMSIG(status) : WEXITSTATUS(status);
 }
 
 static void tell_kept(uint32_t ran) {
@@ -155,7 +155,8 @@ int main(int count, char **argv) {
     if (count != 5 || chdir(argv[2])) return 2;
     struct sigaction action = {.sa_handler = stop_it};
     sigaction(SIGALRM, &action, 0);
-    int files[3] = {memfd_create("out", MFD_CLOEXEC), memfd_create("err", MFD_CLOEXEC), open("/dev/null", O_RDONLY | O_CLOEXEC)};
+    int files[3] = {memfd_create("out", MFD_CLOEXEC), memfd_create("err", MFD_CLOEXEC), -1};
+    files[2] = open("/dev/null", O_RDONLY | O_CLOEXEC);
     for (;;) {
         put_files();
         uint32_t last = NOT_RUN;

@@ -1,4 +1,4 @@
-"""Runs a program on a system of which one call fails, or of which each read and write is short, and looks at how it ends."""
+"""Runs a program on a system of which a call fails, or each read and write is short, and looks at how it ends."""
 
 from __future__ import annotations
 
@@ -27,7 +27,8 @@ LINE = re.compile(rb"mosaikrun: (outside: (?:fleet|folder|output)|out of memory|
 STATUS = {b"outside": 6, b"out of": 8, b"run 5": 5}
 COUNT = '[[entities]]\nid = "a"\nsim = "A-0"\nmodel = "Count"\n[[entities]]\nid = "b"\nsim = "B-0"\nmodel = '
 FEED = '[[connect]]\nfrom = "a"\nto = "b"\nattrs = [["out", "in"]]\n'
-INSIDE = 'until = 3\n[[sim]]\nname = "A"\nlocal = "counter"\n[[sim]]\nname = "B"\nlocal = "sum"\n' + COUNT + '"Sum"\n' + FEED
+INSIDE = 'until = 3\n[[sim]]\nname = "A"\nlocal = "counter"\n[[sim]]\nname = "B"\nlocal = "sum"\n'
+INSIDE += COUNT + '"Sum"\n' + FEED
 OUTSIDE = 'until = 3\n[[sim]]\nname = "A"\ncommand = "./counter %(addr)s"\n[[sim]]\nname = "B"\n'
 OUTSIDE += 'command = "./counter %(addr)s"\n' + COUNT + '"Count"\n' + FEED
 COMMANDS = {
@@ -252,5 +253,6 @@ def try_all(program: str, count: int, seed: int, jobs: int) -> tuple[int, int]:
     tries = len(found) + len(others)
     seconds = time.monotonic() - begun
     names = len({fault.name for fault in every})
-    print(f"faults: {len(found)} of {len(every)} in {names} functions, seed {seed}, {len(others)} others; {bad} wrong, {seconds:.0f} s")
+    print(f"faults: {len(found)} of {len(every)} in {names} functions, seed {seed}, {len(others)} others, ", end="")
+    print(f"{bad} wrong, {seconds:.0f} s")
     return tries - bad, bad

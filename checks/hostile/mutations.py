@@ -11,19 +11,20 @@ QUOTED = re.compile(rb"\"(?:[^\"\\\n]|\\.)*\"|'[^'\n]*'")
 BRACKETS = re.compile(rb"\[[^\[\]\n]*\]|\{[^{}\n]*\}")
 ENTRY = re.compile(rb"^(?:ask|got)(?: |$)", re.MULTILINE)
 END = re.compile(rb"^end .*$", re.MULTILINE)
-LIMITS = (1, 2, 63, 64, 80, 81, 99, 100, 101, 126, 127, 128, 199, 200, 201, 999, 1000, 1001, 9999, 10_000, 10_001)
-GREAT = (65535, 65536, 100_000, 100_001, 10**6, 10**6 + 1, 20_000_000, 20_000_001, 10**9, 10**9 + 1, 10**18, 10**18 + 1)
+LIMITS = (1, 2, 63, 64, 80, 81, 99, 100, 101, 126, 127, 128, 199, 200, 201, 999, 1000, 1001, 9999, 10_000)
+GREAT = (65535, 100_000, 100_001, 10**6, 10**6 + 1, 20_000_000, 20_000_001, 10**9, 10**9 + 1, 10**18, 10**18 + 1)
 BOUNDS = tuple(2**power + more for power in (31, 32, 53, 63, 64) for more in (-1, 0, 1))
 NUMBERS = tuple(str(number).encode() for number in (0, *LIMITS, *GREAT, *BOUNDS, 10**30))
-ODD = (b"-0", b"0.0", b"0.5", b"1e3", b"1e400", b"-1e400", b"1e-400", b"1.7976931348623159e308", b"01", b"+1", b"1.", b".5")
+ODD = (b"-0", b"0.0", b"0.5", b"1e3", b"1e400", b"-1e400", b"1e-400", b"1.7976931348623159e308", b"01", b"+1", b"1.")
 NAMED = (b"NaN", b"Infinity", b"-Infinity", b"inf", b"nan", b"0x10", b"1_000", b"0b1", b"0o7", b"1979-05-27", b"07:32:00")
 VALUES = (b"null", b"true", b"false", b"[]", b"{}", b'""', b"[[]]", b'{"":{}}', b'{"a":1,"a":2}', b"[1,2,3]", b"'x'")
 TEXTS = (b'"time"', b'"."', b'"A-0"', b'"A-0.0"', b'"\\u0000"', b'"\\ud800"', b'"\\ud83d\\ude00"', b'"\\udc00\\ud800"')
 MORE_TEXTS = (b'"\xc3\xa9"', b'"\xff"', b'"\\x"', b'"\\n"', b'"a\tb"', b'"shift"', b'"plain"', b'"weak"', b'"hybrid"')
 LONG = tuple(b'"' + b"a" * length + b'"' for length in (63, 64, 65, 255, 4096))
 TOKENS = NUMBERS + ODD + NAMED + VALUES + TEXTS + MORE_TEXTS + LONG
-WORDS = (b"mosaikrun", b"run", b"sim", b"model", b"entity", b"conn", b"async", b"ask", b"got", b"end", b"", b"Got", b"stop")
-BYTES = (b"\0", b"\r", b"\n", b"\r\n", b"\xef\xbb\xbf", b"\xff", b"\x80", b" ", b"\t", b'"', b"\\", b"[", b"]", b"{", b"}", b",")
+WORDS = (b"mosaikrun", b"run", b"sim", b"model", b"entity", b"conn", b"async", b"ask", b"got", b"end", b"", b"Got")
+MARKS = (b"\\", b"[", b"]", b"{", b"}", b",")
+BYTES = (b"\0", b"\r", b"\n", b"\r\n", b"\xef\xbb\xbf", b"\xff", b"\x80", b" ", b"\t", b'"', *MARKS)
 LONGEST = 1 << 20
 Change = Callable[[random.Random, bytes, bytes], bytes]
 
@@ -141,7 +142,8 @@ def repeat(rng: random.Random, text: bytes, other: bytes) -> bytes:
 
 def marks(rng: random.Random, text: bytes, other: bytes) -> bytes:
     changes: tuple[bytes, ...] = (b"\xef\xbb\xbf" + text, text.replace(b"\n", b"\r\n"), text.replace(b"1", b" 1 "))
-    return rng.choice(changes + (text.replace(b",", b", "), text.rstrip(b"\n"), text + b"\n", text.replace(b" ", b"  ", 1)))
+    changes += (text.replace(b",", b", "), text.rstrip(b"\n"), text + b"\n", text.replace(b" ", b"  ", 1))
+    return rng.choice(changes)
 
 
 CHANGES: tuple[tuple[Change, int], ...] = (

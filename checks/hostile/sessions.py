@@ -26,7 +26,10 @@ AFTER_STOP = (b"", b"nonsense", b"\xff" * 9, b"\x00\x00\x00\x0a[1,0,null]" * 3, 
 
 
 class Plan(NamedTuple):
-    """A session: the widths of the simulators' steps, which one is hostile and where, who feeds whom, who is a child."""
+    """A session: the widths of the simulators' steps, which one is hostile and where, who feeds whom, who is a child.
+
+    Behind the stop the hostile one says some bytes; one that is absent ends as soon as it is started.
+    """
 
     until: int
     widths: tuple[int, ...]
@@ -35,6 +38,7 @@ class Plan(NamedTuple):
     feeds: tuple[tuple[int, int], ...]
     children: tuple[bool, ...]
     after_stop: bytes
+    is_absent: bool
 
 
 class Hostile(Honest):
@@ -100,7 +104,8 @@ def drawn_plan(rng: random.Random) -> Plan:
     pairs = [(source, target) for source in range(count) for target in range(source + 1, count)]
     feeds = tuple(sorted(rng.sample(pairs, rng.choice((0, 1, min(2, len(pairs)))))))
     children = tuple(rng.random() < 0.2 for _ in range(count))
-    plan = Plan(rng.randrange(2, 6), widths, hostile, 0, feeds, children, rng.choice(AFTER_STOP))
+    is_absent = children[hostile] and rng.random() < 0.1
+    plan = Plan(rng.randrange(2, 6), widths, hostile, 0, feeds, children, rng.choice(AFTER_STOP), is_absent)
     return plan._replace(at=rng.randrange(total(plan) + (rng.random() < 0.05)))
 
 
@@ -123,7 +128,8 @@ class Stage:
         lines = [f"until = {plan.until}"]
         for place, is_child in enumerate(plan.children):
             port = self.listeners[place].getsockname()[1]
-            child = f'command = "{self.child} %(addr)s {self.local} {place}"'
+            status = " 3" if plan.is_absent and place == plan.hostile else ""
+            child = f'command = "{self.child} %(addr)s {self.local} {place}{status}"'
             lines += ["[[sim]]", f'name = "S{place}"', child if is_child else f'connect = "127.0.0.1:{port}"']
         for place in range(len(plan.widths)):
             lines += ["[[entities]]", f'id = "s{place}"', f'sim = "S{place}-0"', 'model = "M"']
@@ -226,7 +232,7 @@ def honest_report(stage: Stage, plan: Plan) -> bytes:
     key = (plan.until, plan.widths, plan.feeds)
     if key not in stage.reports:
         children = (False,) * len(plan.children)
-        session = Session(stage, plan._replace(children=children, after_stop=b""), None)
+        session = Session(stage, plan._replace(children=children, after_stop=b"", is_absent=False), None)
         status, out, err = session.run()
         if status or err or session.wrong:
             raise RuntimeError(f"a run without hostile simulators: {status} {err!r} {session.wrong}")
@@ -258,11 +264,11 @@ def tried(stage: Stage, seed: str) -> list[str]:
     session = Session(stage, plan, rng)
     status, out, err = session.run()
     hostile = session.sims[plan.hostile]
-    act = hostile.act or Act([], "go", [None])
+    act = hostile.act or Act([], "go", ["outside: fleet" if plan.is_absent else None])
     wrong = session.wrong + ending_wrong(status, out, err, act.lines, report)
     for sim in session.sims:
         if sim is not hostile:
-            wrong += sim.wrong + ([] if sim.stopped else [f"{sim.name} wasn't told to stop"])
+            wrong += sim.wrong + ([] if sim.stopped or plan.is_absent else [f"{sim.name} wasn't told to stop"])
     return [f"session {seed}: {', '.join(wrong)}; {plan}; {hostile.moment}; {described(act)}"] if wrong else []
 
 

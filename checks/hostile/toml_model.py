@@ -1,4 +1,4 @@
-"""Second readers of scenarios and of files of watches, after docs/formats.md; they read only what Python's own TOML takes."""
+"""Second readers of scenarios and of files of watches, after docs/formats.md, over Python's own reader of TOML."""
 
 from __future__ import annotations
 
@@ -156,14 +156,15 @@ class Scenario:
         """Takes a `sim` table."""
         keys.known(SIM)
         name = keys.name("name")
-        command, address, local = keys.text("command"), keys.text("connect"), None
+        command, address = keys.text("command"), keys.text("connect")
         found = ADDRESS.match(address) if address is not None else None
         if address is not None and not (found and 1 <= int(found.group(1)) <= 65535):
             keys.beyond("connect", address)
         local = keys.text("local")
         params = keys.data("params")
         self.times(keys)
-        given = [(kind, text) for kind, text in (("command", command), ("connect", address), ("local", local)) if text is not None]
+        starts = (("command", command), ("connect", address), ("local", local))
+        given = [(kind, text) for kind, text in starts if text is not None]
         if not given:
             say(f"scenario 2: missing {keys.at('command')}")
         if len(given) > 1:
@@ -340,7 +341,7 @@ def watched(document: dict, ids: set[str]) -> None:
 
 
 def watch_of(record: bytes, raw: bytes) -> Optional[bytes]:
-    """Returns the line of a file of watches of a right record, empty where it has no fault, or None where it can't say."""
+    """Returns the line of a file of watches of a right record, empty where it has no fault, None where it can't say."""
     document = document_of(raw)
     if document is None:
         return None

@@ -122,7 +122,8 @@ def entries_wrong(program: str, room: str, name: str, entries: int) -> list[str]
         wrong.append(f"{entries} entries: from {min(files)} to {max(files)} open files")
     seconds = got.samples[-1][0] if got.samples else 0
     each = got.memory * 1024 // entries
-    print(f"{name}: {entries} entries in {seconds:.0f} s, {got.memory} KiB, {each} bytes an entry, open files {sorted(files)}")
+    print(f"{name}: {entries} entries in {seconds:.0f} s, {got.memory} KiB, {each} bytes an entry, ", end="")
+    print(f"open files {sorted(files)}")
     return wrong
 
 
