@@ -2,7 +2,7 @@
 
 from __future__ import annotations
 
-from typing import Any, Callable, Optional
+from typing import Any, Callable, NamedTuple, Optional
 
 from .json_model import Refused, depth_of, is_number, is_whole, value_of
 
@@ -57,6 +57,30 @@ def is_message(value: Any) -> bool:
     return kind == 1 or isinstance(content, str)
 
 
+class Sim(NamedTuple):
+    """What a `sim` line says."""
+
+    name: str
+    kind: str
+    first: int
+    rank: int
+    events: list[int]
+
+
+class Conn(NamedTuple):
+    """What a `conn` line says."""
+
+    source: int
+    source_attr: str
+    target: int
+    target_attr: str
+    way: str
+    width: Optional[int]
+    persistent: bool
+    triggering: bool
+    initial: list
+
+
 class Reader:
     """What stands in the lines so far."""
 
@@ -64,12 +88,13 @@ class Reader:
         self.last = 0
         self.second = False
         self.until = self.loops = self.entries = 0
-        self.sims: list[tuple] = []
+        self.sims: list[Sim] = []
         self.models: list[tuple] = []
         self.entities: list[tuple] = []
-        self.conns: list[tuple] = []
+        self.conns: list[Conn] = []
         self.pairs: list[tuple] = []
         self.count = 0
+        self.messages: list[tuple[int, list]] = []
         self.ended = False
 
     def line(self, line: bytes) -> None:
@@ -121,7 +146,7 @@ def take_sim(reader: Reader, items: list) -> None:
     name, kind, first, rank, events = items
     form(isinstance(name, str), isinstance(kind, str), is_number(first), is_number(rank), are_numbers(events))
     fits(kind in KINDS, 0 <= first <= 10**6, 0 <= rank <= 199, all(0 <= event <= LATEST for event in events))
-    reader.sims.append((name, kind, rank))
+    reader.sims.append(Sim(name, kind, first, rank, events))
 
 
 def take_model(reader: Reader, items: list) -> None:
@@ -167,7 +192,7 @@ def take_conn(reader: Reader, items: list) -> None:
     form(not initial or (len(initial) == 1 and is_whole(initial[0]) and depth_of(initial[0]) <= 100))
     check_way(reader.second, *way)
     fits(0 <= source < len(reader.entities), 0 <= target < len(reader.entities))
-    reader.conns.append((source, source_attr, target, target_attr, way[0], persistent, triggering, bool(initial)))
+    reader.conns.append(Conn(source, source_attr, target, target_attr, *way, persistent, triggering, initial))
 
 
 def take_pair(reader: Reader, items: list) -> None:
@@ -187,6 +212,7 @@ def take_got(reader: Reader, items: list) -> None:
     form(len(items) == 2)
     form(is_number(items[0]), is_message(items[1]))
     fits(0 <= items[0] < len(reader.sims))
+    reader.messages.append((items[0], items[1]))
     reader.count += 1
 
 
@@ -209,7 +235,7 @@ def is_well_formed(reader: Reader) -> bool:
     for sim, _ in reader.models:
         counts[sim] += 1
     sizes = 1 <= len(reader.sims) <= 200 and len(reader.entities) <= 10_000 and len(reader.conns) <= 100_000
-    names = [name for name, _, _ in reader.sims]
+    names = [sim.name for sim in reader.sims]
     eids = [(owner, eid) for owner, (_, eid, _) in zip(owners, reader.entities)]
     related = all(other < len(eids) for _, _, others in reader.entities for other in others)
     distinct = len(set(names)) == len(names) and len(set(eids)) == len(eids)
@@ -219,8 +245,9 @@ def is_well_formed(reader: Reader) -> bool:
 
 def has_ranks(reader: Reader, owners: list[int]) -> bool:
     """Returns whether the ranks are 0 to n - 1, each once, and what is plain leads to a higher one."""
-    ranks = [rank for _, _, rank in reader.sims]
-    rises = all(ranks[owners[conn[0]]] < ranks[owners[conn[2]]] for conn in reader.conns if conn[4] == "plain")
+    ranks = [sim.rank for sim in reader.sims]
+    plain = [conn for conn in reader.conns if conn.way == "plain"]
+    rises = all(ranks[owners[conn.source]] < ranks[owners[conn.target]] for conn in plain)
     pairs = all(ranks[source] < ranks[target] for source, target in reader.pairs)
     return sorted(ranks) == list(range(len(ranks))) and rises and pairs
 
@@ -229,23 +256,23 @@ def kinds_fit(reader: Reader, owners: list[int]) -> bool:
     """Returns whether outputs persist and inputs trigger as the types say, and alike for each of them."""
     persist: dict = {}
     trigger: dict = {}
-    for source, source_attr, target, target_attr, _, persistent, triggering, _ in reader.conns:
-        source_kind, target_kind = reader.sims[owners[source]][1], reader.sims[owners[target]][1]
-        if source_kind != "hybrid" and persistent != (source_kind == "time-based"):
+    for conn in reader.conns:
+        source_kind, target_kind = reader.sims[owners[conn.source]].kind, reader.sims[owners[conn.target]].kind
+        if source_kind != "hybrid" and conn.persistent != (source_kind == "time-based"):
             return False
-        if target_kind != "hybrid" and triggering != (target_kind == "event-based"):
+        if target_kind != "hybrid" and conn.triggering != (target_kind == "event-based"):
             return False
-        if persist.setdefault((source, source_attr), persistent) != persistent:
+        if persist.setdefault((conn.source, conn.source_attr), conn.persistent) != conn.persistent:
             return False
-        if trigger.setdefault((target, target_attr), triggering) != triggering:
+        if trigger.setdefault((conn.target, conn.target_attr), conn.triggering) != conn.triggering:
             return False
     return True
 
 
 def has_initial_values(reader: Reader) -> bool:
     """Returns whether a shifted persistent connection has an initial value and a plain one has none."""
-    for _, _, _, _, way, persistent, _, given in reader.conns:
-        if (way == "plain" and given) or (way == "shift" and persistent and not given):
+    for conn in reader.conns:
+        if conn.way == "plain" and conn.initial or conn.way == "shift" and conn.persistent and not conn.initial:
             return False
     return True
 
@@ -255,7 +282,7 @@ def is_valid(reader: Reader) -> bool:
     if not is_well_formed(reader):
         return False
     owners = [reader.models[model][0] for model, _, _ in reader.entities]
-    ways = [(conn[0], conn[2], conn[3]) for conn in reader.conns]
+    ways = [(conn.source, conn.target, conn.target_attr) for conn in reader.conns]
     once = len(set(ways)) == len(ways)
     return has_ranks(reader, owners) and once and has_initial_values(reader) and kinds_fit(reader, owners)
 
@@ -274,6 +301,14 @@ def fault_of(raw: bytes) -> Fault:
     return len(pieces), EARLY
 
 
+def read(raw: bytes) -> Reader:
+    """Returns what a right record says."""
+    reader = Reader()
+    for line in raw.split(b"\n")[:-1]:
+        reader.line(line)
+    return reader
+
+
 def full_ids(raw: bytes) -> set[str]:
     """Returns the full ids of the entities of a right record."""
     reader = Reader()
@@ -281,7 +316,7 @@ def full_ids(raw: bytes) -> set[str]:
         if line.startswith((b"ask ", b"got ", b"end ")):
             break
         reader.line(line)
-    return {f"{reader.sims[reader.models[model][0]][0]}.{eid}" for model, eid, _ in reader.entities}
+    return {f"{reader.sims[reader.models[model][0]].name}.{eid}" for model, eid, _ in reader.entities}
 
 
 def mended(raw: bytes) -> bytes:

@@ -340,6 +340,11 @@ def watched(document: dict, ids: set[str]) -> None:
             say(f"watch 7: no entity {entity} at {keys.at('entity')}")
 
 
+def watches_in(raw: bytes) -> list[dict]:
+    """Returns the watches of a right file of watches."""
+    return (document_of(raw) or {}).get("watch", [])
+
+
 def watch_of(record: bytes, raw: bytes) -> Optional[bytes]:
     """Returns the line of a file of watches of a right record, empty where it has no fault, None where it can't say."""
     document = document_of(raw)

@@ -10,8 +10,10 @@ from .corpus import Corpus, ends_within, is_inside
 from .driving import NOT_RUN, SIGNALLED, TIMED_OUT, Job, Ran, Step
 from .mutations import mutated
 from .record_model import fault_of, line_of, mended
-from .toml_model import check_of, watch_of
+from .report_model import report_of, tables_of
+from .toml_model import check_of, watch_of, watches_in
 
+UNMODELLED = re.compile(rb"mosaikrun: (?:run 9: .*|run 1: .* cause 1|limit: \d+ entries)\n", re.DOTALL)
 LINES = {
     2: rb"usage: .*",
     3: rb"(?:scenario (?:10|[1-9])|watch [1-7]|connect 8|launch [1-4]): .*|record: line \d+ fault [1-6]",
@@ -75,6 +77,19 @@ def as_before(word: str, ran: Ran, before: Ran) -> list[str]:
     return same(word, ran, before.status, before.err, before.out)
 
 
+def report_wrong(record: bytes, ran: Ran) -> list[str]:
+    """Returns what is wrong about the report of a right record, by the model of sequential execution.
+
+    The model leaves out in which order messages came, how many entries there may be, and the steps of a version 2.
+    """
+    report = report_of(record)
+    if ran.status == NOT_RUN or report is None:
+        return []
+    if ran.status == 0:
+        return [] if ran.out == report else ["model of report: another report"]
+    return [f"model of report: {ran.err[:99]!r}"] if report and not UNMODELLED.fullmatch(ran.err) else []
+
+
 def record_steps(trial: Trial, rules: Rules) -> tuple[Step, ...]:
     replay = Step((b"replay", b"r"))
     order = str((0, 1, 5, 2**32 - 1)[trial.drawn % 4]).encode()
@@ -93,8 +108,10 @@ def record_wrong(trial: Trial, rules: Rules, rans: list[Ran]) -> list[str]:
     first, second = rans[0], rans[1]
     if fault:
         wrong = same("model of replay", first, 3, line_of(fault))
+    elif first.status == 3:
+        wrong = ["model of replay: a fault in a right record"]
     else:
-        wrong = ["model of replay: a fault in a right record"] if first.status == 3 else []
+        wrong = report_wrong(trial.files[b"r"], first)
     what = trial.drawn // 4 % 5
     if what == 1:
         return wrong + migrated_wrong(trial, rules, rans)
@@ -167,7 +184,10 @@ def watch_wrong(trial: Trial, rules: Rules, rans: list[Ran]) -> list[str]:
         return same("model of watches", rans[1], 3, line)
     if line == b"" and rans[1].status == 3:
         return [f"model of watches: {rans[1].err[:99]!r} where none was due"]
-    return as_before("watch", rans[1], rans[0]) if rans[0].status and rans[1].status != 3 else []
+    if rans[0].status or rans[1].status:
+        return as_before("watch", rans[1], rans[0]) if rans[1].status != 3 else []
+    tables = tables_of(trial.files[b"r"], watches_in(trial.files[b"w"])) if line == b"" else None
+    return ["model of watches: other tables"] if tables not in (None, rans[1].out) else []
 
 
 def scenario_steps(trial: Trial, rules: Rules) -> tuple[Step, ...]:
@@ -192,6 +212,7 @@ def scenario_wrong(trial: Trial, rules: Rules, rans: list[Ran]) -> list[str]:
     if ran.status == 0:
         wrong += as_before("replay of a run", replayed, ran) + as_before("resume of a run", resumed, ran)
         wrong += ["resume: saves no record"] if resumed.files[b"t"] is None else []
+        wrong += report_wrong(ran.files[b"q"] or b"", ran)
         wrong += [text for paced in by_clock for text in as_before("paced", paced, ran)]
     return wrong
 
