@@ -90,6 +90,7 @@ class Reader:
         self.until = self.loops = self.entries = 0
         self.sims: list[Sim] = []
         self.models: list[tuple] = []
+        self.attrs: list[tuple[list[str], bool]] = []
         self.entities: list[tuple] = []
         self.conns: list[Conn] = []
         self.pairs: list[tuple] = []
@@ -155,6 +156,7 @@ def take_model(reader: Reader, items: list) -> None:
     form(is_number(sim), isinstance(name, str), are_texts(attrs), isinstance(any_inputs, bool))
     fits(0 <= sim < len(reader.sims))
     reader.models.append((sim, name))
+    reader.attrs.append((attrs, any_inputs))
 
 
 def take_entity(reader: Reader, items: list) -> None:

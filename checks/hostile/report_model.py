@@ -1,19 +1,19 @@
-"""Sequential execution, written anew after docs/rules.md: the report of a record whose simulators ask for nothing."""
+"""Sequential execution, written anew after docs/rules.md: the report of a record."""
 
 from __future__ import annotations
 
-import json
 from typing import Any, Optional
 
+from .asks_model import Asker, SetValue, compact
 from .json_model import depth_of, is_number, is_whole
 from .record_model import Conn, Reader, read
 
 Tier = tuple[int, int]
-MOST_TIME, BOUND = 10**18, 2**63
+MOST_TIME, BOUND, MOST_REQUESTS = 10**18, 2**63, 10_000
 
 
 class Unsaid(Exception):
-    """The messages don't come to a report, or this model doesn't know which."""
+    """The messages don't come to a report."""
 
 
 def after(conn: Conn, made: Tier) -> Tier:
@@ -35,6 +35,8 @@ class Execution:
         self.due: list[set[Tier]] = [set() for _ in reader.sims]
         self.last: list[Optional[Tier]] = [None] * len(reader.sims)
         self.delivered: list[list[tuple[Tier, Any]]] = [[] for _ in reader.conns]
+        self.given: list[tuple[Tier, SetValue]] = []
+        self.made: dict[tuple[int, str], list[tuple[Tier, Any]]] = {}
         self.lines: list[list[str]] = [[f"sim {sim.name}"] for sim in reader.sims]
         self.steps: list[tuple[int, Tier, dict]] = []
         for place, sim in enumerate(reader.sims):
@@ -76,15 +78,38 @@ class Execution:
                 source = f"{self.plan.sims[self.owners[conn.source]].name}.{self.plan.entities[conn.source][1]}"
                 attrs = inputs.setdefault(self.plan.entities[conn.target][1], {})
                 attrs.setdefault(conn.target_attr, {})[source] = value
+        before = self.last[sim]
+        for at, given in self.given:
+            if self.owners[given.entity] == sim and at <= now and (before is None or at > before):
+                attrs = inputs.setdefault(self.plan.entities[given.entity][1], {})
+                attrs.setdefault(given.attr, {})[given.source] = given.value
         return inputs
+
+    def answer(self, sim: int, now: Tier) -> None:
+        """Answers the requests of a step."""
+
+        def look(entity: int, attr: str) -> list:
+            seen = [one for one in self.made.get((entity, attr), []) if one[0] <= now]
+            newest = max((time for time, _ in seen), default=now)
+            return [value for time, value in seen if time == newest][-1:]
+
+        for count in range(MOST_REQUESTS + 1):
+            if self.taken[sim] == len(self.said[sim]) or self.said[sim][self.taken[sim]][0] != 0:
+                return
+            _, number, content = self.said[sim][self.taken[sim]]
+            self.taken[sim] += 1
+            line, values = Asker(self.plan, sim).answered(number, content, look)
+            self.lines[sim].append(line)
+            self.given += [((now[0] + 1, 0), value) for value in values]
+        raise Unsaid
 
     def step(self, sim: int, now: Tier) -> None:
         """Takes a simulator's turn."""
         inputs = self.inputs(sim, now)
-        text = json.dumps(inputs, ensure_ascii=False, separators=(",", ":"), sort_keys=True)
-        self.lines[sim].append(f"step {now[0]}:{now[1]} {text}")
+        self.lines[sim].append(f"step {now[0]}:{now[1]} {compact(inputs)}")
         self.steps.append((sim, now, inputs))
         self.last[sim] = now
+        self.answer(sim, now)
         following = self.reply(sim)
         if following is None:
             if self.plan.sims[sim].kind == "time-based":
@@ -105,11 +130,15 @@ class Execution:
         if not is_number(time) or not now[0] <= time <= MOST_TIME:
             raise Unsaid
         made = (time, 0) if time > now[0] else now
+        taken = set()
         for place, conn in leaving:
             values = outputs.get(self.plan.entities[conn.source][1], {})
             if not isinstance(values, dict):
                 raise Unsaid
             if conn.source_attr in values:
+                if (conn.source, conn.source_attr) not in taken:
+                    taken.add((conn.source, conn.source_attr))
+                    self.made.setdefault((conn.source, conn.source_attr), []).append((made, values[conn.source_attr]))
                 self.deliver(place, conn, values[conn.source_attr], after(conn, made))
 
     def deliver(self, place: int, conn: Conn, value: Any, at: Tier) -> None:
@@ -142,13 +171,10 @@ class Execution:
         return "\n".join(line for lines in self.lines for line in lines) + f"\nend {len(self.steps)}\n"
 
 
-def report_of(raw: bytes) -> Optional[bytes]:
-    """Returns the report of a right record, empty where it comes to none, or None where this model doesn't know."""
-    reader = read(raw)
-    if any(message[0] == 0 for _, message in reader.messages):
-        return None
+def report_of(raw: bytes) -> bytes:
+    """Returns the report of a right record, empty where it comes to none."""
     try:
-        return Execution(reader).report().encode()
+        return Execution(read(raw)).report().encode()
     except Unsaid:
         return b""
 
@@ -183,10 +209,8 @@ def table_of(execution: Execution, watch: dict) -> str:
     return "\n".join([*lines, f"rows {len(rows)}{total}\n"])
 
 
-def tables_of(raw: bytes, watches: list[dict]) -> Optional[bytes]:
-    """Returns the tables of a right record that has a report, or None where this model doesn't know."""
-    if not report_of(raw):
-        return None
+def tables_of(raw: bytes, watches: list[dict]) -> bytes:
+    """Returns the tables of a right record that has a report."""
     execution = Execution(read(raw))
     execution.report()
     return "".join(table_of(execution, watch) for watch in watches).encode()

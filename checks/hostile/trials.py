@@ -83,7 +83,7 @@ def report_wrong(record: bytes, ran: Ran) -> list[str]:
     The model leaves out in which order messages came, how many entries there may be, and the steps of a version 2.
     """
     report = report_of(record)
-    if ran.status == NOT_RUN or report is None:
+    if ran.status == NOT_RUN:
         return []
     if ran.status == 0:
         return [] if ran.out == report else ["model of report: another report"]
@@ -186,8 +186,10 @@ def watch_wrong(trial: Trial, rules: Rules, rans: list[Ran]) -> list[str]:
         return [f"model of watches: {rans[1].err[:99]!r} where none was due"]
     if rans[0].status or rans[1].status:
         return as_before("watch", rans[1], rans[0]) if rans[1].status != 3 else []
-    tables = tables_of(trial.files[b"r"], watches_in(trial.files[b"w"])) if line == b"" else None
-    return ["model of watches: other tables"] if tables not in (None, rans[1].out) else []
+    if line is None or not report_of(trial.files[b"r"]):
+        return []
+    tables = tables_of(trial.files[b"r"], watches_in(trial.files[b"w"]))
+    return ["model of watches: other tables"] if tables != rans[1].out else []
 
 
 def scenario_steps(trial: Trial, rules: Rules) -> tuple[Step, ...]:
