@@ -2,6 +2,7 @@
 
 from __future__ import annotations
 
+import functools
 from typing import Any, Callable, NamedTuple, Optional
 
 from .json_model import Refused, depth_of, is_number, is_whole, value_of
@@ -289,35 +290,34 @@ def is_valid(reader: Reader) -> bool:
     return has_ranks(reader, owners) and once and has_initial_values(reader) and kinds_fit(reader, owners)
 
 
-def fault_of(raw: bytes) -> Fault:
-    """Returns the first faulty line of a record and its fault, or None where it is a record."""
+@functools.lru_cache(maxsize=8)
+def seen(raw: bytes) -> tuple[Reader, Fault]:
+    """Returns what the lines of a record say until the first faulty one, and that one with its fault, None without one."""
     pieces = raw.split(b"\n")
     reader = Reader()
     for place, piece in enumerate(pieces[:-1]):
         try:
             reader.line(piece)
         except Bad as bad:
-            return place + 1, bad.fault
+            return reader, (place + 1, bad.fault)
         if reader.ended:
-            return None if pieces[place + 1 :] == [b""] else (place + 2, BEHIND)
-    return len(pieces), EARLY
+            return reader, None if pieces[place + 1 :] == [b""] else (place + 2, BEHIND)
+    return reader, (len(pieces), EARLY)
+
+
+def fault_of(raw: bytes) -> Fault:
+    """Returns the first faulty line of a record and its fault, or None where it is a record."""
+    return seen(raw)[1]
 
 
 def read(raw: bytes) -> Reader:
     """Returns what a right record says."""
-    reader = Reader()
-    for line in raw.split(b"\n")[:-1]:
-        reader.line(line)
-    return reader
+    return seen(raw)[0]
 
 
 def full_ids(raw: bytes) -> set[str]:
     """Returns the full ids of the entities of a right record."""
-    reader = Reader()
-    for line in raw.split(b"\n")[:-1]:
-        if line.startswith((b"ask ", b"got ", b"end ")):
-            break
-        reader.line(line)
+    reader = read(raw)
     return {f"{reader.sims[reader.models[model][0]].name}.{eid}" for model, eid, _ in reader.entities}
 
 
