@@ -2,7 +2,7 @@
 //
 // A job on standard input is files for the folder, and steps, each the words of a run. What came of each step goes to
 // standard output: status, greatest memory, time, both outputs, and the files that were asked for. All numbers have 32
-// bits, least significant byte first. A run ends after so many seconds, and may have so many bytes of address space.
+// bits, least significant byte first. A run ends after so many seconds, and may have so many bytes of address space (0: all).
 #define _GNU_SOURCE
 #include <dirent.h>
 #include <errno.h>
@@ -87,7 +87,7 @@ static void put_files(void) {
 static void begin(const char *program, char **words, int out, int err, int none, rlim_t bytes) {
     char *scope[] = {"PATH=/usr/bin:/bin", 0};
     struct rlimit space = {bytes, bytes}, core = {0, 0};
-    setrlimit(RLIMIT_AS, &space);
+    if (bytes) setrlimit(RLIMIT_AS, &space);
     setrlimit(RLIMIT_CORE, &core);
     dup2(none, 0);
     dup2(out, 1);

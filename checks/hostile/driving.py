@@ -72,13 +72,24 @@ def job_bytes(job: Job) -> bytes:
     return b"".join(parts)
 
 
+def driver_of(program: str) -> Driver:
+    """Returns a driver that gives the program as much address space as it needs to begin: one with a sanitizer takes all."""
+    driver = Driver(program)
+    (ran,) = driver.run(Job({}, (Step((b"replay", b"none")),)))
+    if ran.status < SIGNALLED:
+        return driver
+    driver.close()
+    return Driver(program, 0)
+
+
 class Driver:
     """A driver that runs."""
 
-    def __init__(self, program: str) -> None:
+    def __init__(self, program: str, space: int = SPACE) -> None:
+        self.space = space
         self.tools = tempfile.mkdtemp(prefix="hostile-")
         self.room = room_in_memory()
-        words = [compiled("driver.c", self.tools), program, self.room, str(SECONDS), str(SPACE)]
+        words = [compiled("driver.c", self.tools), program, self.room, str(SECONDS), str(space)]
         self.process = subprocess.Popen(words, stdin=subprocess.PIPE, stdout=subprocess.PIPE)
         self.runs = 0
 

@@ -10,7 +10,7 @@ import time
 from typing import NamedTuple
 
 from .corpus import Corpus
-from .driving import NOT_RUN, Driver, Job, Step
+from .driving import NOT_RUN, Driver, Job, Step, driver_of
 from .shrinking import as_cases, complaint, shrunk
 from .trials import Rules, drawn, job_of, wrong_of
 
@@ -51,7 +51,7 @@ def explained(driver: Driver, rules: Rules, trial, found: list[str]) -> str:
 
 def tried(share: Share) -> Told:
     """Tries a share of the inputs."""
-    driver = Driver(share.program)
+    driver = driver_of(share.program)
     corpus = Corpus(CHECKS)
     corpus.record(driver)
     rules = rules_of(driver)
