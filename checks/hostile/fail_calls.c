@@ -17,6 +17,7 @@
 #include <sys/ioctl.h>
 #include <sys/socket.h>
 #include <sys/stat.h>
+#include <sys/syscall.h>
 #include <sys/uio.h>
 #include <sys/wait.h>
 #include <time.h>
@@ -30,7 +31,7 @@ static const char *wanted;
 static long at = -1;
 static int error;
 static size_t longest = (size_t)-1;
-static char told[4096];
+static char told[4096], named[64];
 
 static int place_of(const char *name) {
     for (int i = 0; i < count; i++)
@@ -188,7 +189,7 @@ ANSWER(posix_spawnp, (pid_t *child, const char *path, const posix_spawn_file_act
 __attribute__((constructor)) static void begin(void) {
     const char *number = getenv("FAULT_AT"), *code = getenv("FAULT_ERROR"), *length = getenv("FAULT_LENGTH");
     const char *name = getenv("FAULT_CALL"), *file = getenv("FAULT_TELL");
-    wanted = name ? strdup(name) : 0;
+    if (name) wanted = named, snprintf(named, sizeof named, "%s", name);
     at = number ? atol(number) : -1;
     error = code ? atoi(code) : 0;
     if (length) longest = strtoul(length, 0, 10);
@@ -198,12 +199,11 @@ __attribute__((constructor)) static void begin(void) {
 }
 
 __attribute__((destructor)) static void tell(void) {
-    int number = count;
-    long seen[MOST];
-    memcpy(seen, calls, sizeof seen);
-    wanted = 0;
-    FILE *file = told[0] ? fopen(told, "w") : 0;
-    if (!file) return;
-    for (int i = 0; i < number; i++) fprintf(file, "%s %ld\n", names[i], seen[i]);
-    fclose(file);
+    // by the system's own calls, so that it counts none
+    long file = told[0] ? syscall(SYS_open, told, O_WRONLY | O_CREAT | O_TRUNC, 0644) : -1;
+    for (int i = 0; i < count && file >= 0; i++) {
+        char line[80];
+        int length = snprintf(line, sizeof line, "%s %ld\n", names[i], calls[i]);
+        if (syscall(SYS_write, file, line, length) != length) return;
+    }
 }

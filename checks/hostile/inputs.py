@@ -12,7 +12,7 @@ from typing import NamedTuple
 from .corpus import Corpus
 from .driving import NOT_RUN, Driver, Job, Step, driver_of
 from .shrinking import as_cases, complaint, shrunk
-from .trials import Rules, drawn, job_of, wrong_of
+from .trials import Rules, Trial, drawn, job_of, wrong_of
 
 CHECKS = pathlib.Path(__file__).resolve().parents[1]
 CUT = b'mosaikrun 1\nrun [1,1,9]\nsim ["A-0","time-based",3,0,[]]\ngot [0,[1,3,1]]\nask'
@@ -43,7 +43,7 @@ def rules_of(driver: Driver) -> Rules:
     return Rules(ran.status == 0)
 
 
-def explained(driver: Driver, rules: Rules, trial, found: list[str]) -> str:
+def explained(driver: Driver, rules: Rules, trial: Trial, found: list[str]) -> str:
     """Returns what is wrong about a trial, and its least form."""
     trial = shrunk(driver, rules, trial, found[0])
     return "\n".join([f"{trial.kind} {trial.drawn}: {found[0]}", *as_cases(driver, rules, trial)])
