@@ -58,6 +58,14 @@ def is_datum(value: Any) -> bool:
     return not isinstance(value, (float, datetime.date, datetime.time))
 
 
+def finite(text: str) -> float:
+    """Returns a number with a point; of one too great for 64 bits this reader can't say anything."""
+    number = float(text)
+    if number in (float("inf"), float("-inf")) and "inf" not in text:
+        raise ValueError
+    return number
+
+
 def document_of(raw: bytes) -> Optional[dict]:
     """Returns the table that a text of TOML is, or None where this reader can't say."""
     if tomllib is None or raw.count(b"[") + raw.count(b"{") > MOST_BRACKETS:
@@ -65,7 +73,7 @@ def document_of(raw: bytes) -> Optional[dict]:
     if max((line.count(b".") for line in raw.split(b"\n")), default=0) > MOST_PARTS:
         return None
     try:
-        document = tomllib.loads(raw.decode("utf-8"))
+        document = tomllib.loads(raw.decode("utf-8"), parse_float=finite)
         return document if depth_of(document) <= MOST_NESTED else None
     except (ValueError, RecursionError):
         return None
