@@ -24,6 +24,9 @@ from .report_model import report_of
 ERRORS = ("EINTR", "EAGAIN", "ENOSPC", "EMFILE", "ECONNRESET", "EPIPE", "EIO")
 # what only a signal makes fail, what starts a program, and what never fails
 FEWER = dict.fromkeys(("waitpid", "waitid", "wait4", "nanosleep", "clock_nanosleep"), ("EINTR",))
+# behind EAGAIN the program waits until the system tells of a change, and of an untrue one it never does
+WAITS = ("recv", "send", "recvfrom", "sendto", "accept", "accept4", "epoll_wait", "connect")
+FEWER.update(dict.fromkeys(WAITS, tuple(error for error in ERRORS if error != "EAGAIN")))
 FEWER.update(dict.fromkeys(("fork", "posix_spawn", "posix_spawnp"), ("EAGAIN", "ENOMEM")), clock_gettime=())
 SECONDS = 20
 LENGTHS = (1, 2, 3, 4, 5, 7, 8, 15, 16, 31, 64, 100, 1000)
