@@ -251,7 +251,8 @@ def scarce_wrong(stage: Stage) -> list[list[str]]:
         wrong = ended_wrong(seen, good._replace(files=stage.good[command].files), stage.files)
         found.append([f"{command}, children stopped for a while: {text}" for text in wrong])
     enough = False
-    for files in range(3, 25):
+    # with 3 the loader of programs itself can open no file
+    for files in range(4, 25):
         seen = stage.run(COMMANDS["run"], {}, None, files)
         wrong = ended_wrong(seen, good, stage.files)
         wrong += ["more files are too few"] if enough and seen.status != 0 else []
