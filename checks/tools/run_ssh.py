@@ -55,6 +55,7 @@ UsePAM no
 Subsystem sftp internal-sftp
 """
 FAR = 10  # milliseconds that each byte to and from the host `far` takes
+FAR_NAME = "each way"
 
 
 class Ended(NamedTuple):
@@ -235,7 +236,7 @@ class Trial:
         text += '[[connect]]\nfrom = "roof"\nto = "grid"\nattrs = [["power", "in"]]\n'
         (self.here / "study.toml").write_text(text, encoding="utf-8")
         two = self.run("run", "study.toml")
-        self.equal("two simulators on the other machine", (two.status, two.out[-9:]), (0, "end 288\n"[-9:]))
+        self.equal("two simulators on the other machine", (two.status, two.out.splitlines()[-1:]), (0, ["end 288"]))
 
     def lost(self, what: str, break_it: object) -> None:
         """A connection is lost in the run: `run 5` and a record, from which `resume` goes on."""
@@ -268,6 +269,14 @@ class Trial:
             ran = self.run("run", "tunnel.toml")
         self.equal("connect through a tunnel", (ran.status, ran.out), (0, self.whole))
 
+    def early(self) -> None:
+        """Through a tunnel behind which nobody waits the handshake fails."""
+        with self.begun(str(self.ssh), "-N", "-L", "127.0.0.1:5994:127.0.0.1:5994", "other") as tunnel:
+            time.sleep(3)
+            ran = self.run("run", "tunnel.toml")
+            tunnel.terminate()
+        self.equal("a tunnel and nobody behind it", ran.err.splitlines()[-1:], ["mosaikrun: run 5: House-0 closed its link"])
+
     def missing(self) -> None:
         """A host that isn't there, and one whose key isn't known, are said within seconds."""
         for host in ("missing", "nobody.invalid"):
@@ -284,7 +293,7 @@ class Trial:
             ("through ssh, over the cable", {}),
             (f"through ssh, {FAR} ms each way", {"host": " far "}),
         ]:
-            count = steps if "ms each" not in what else steps // 10
+            count = steps if FAR_NAME not in what else steps // 10
             one = self.run("run", self.scenario("remote.toml", until="until = 1", **edits))
             many = self.run("run", self.scenario("remote.toml", until=f"until = {count}", **edits))
             self.equal(f"measured {what}", (one.status, many.status), (0, 0))
@@ -311,6 +320,7 @@ def main() -> int:
             trial.lost("a connection that is ended", trial.end_connection)
             trial.lost("a cable that is pulled", lambda: other.pull(True))
             trial.tunnel()
+            trial.early()
             trial.missing()
             trial.measure()
         finally:
