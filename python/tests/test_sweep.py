@@ -18,7 +18,7 @@ import unittest
 from mosaikrun import paths, program, sweep
 
 ROOT = pathlib.Path(__file__).resolve().parents[2]
-SMALL = ROOT / "examples" / "sweep" / "small.toml"
+SMALL = ROOT / "examples" / "many" / "small.toml"
 LINK = ROOT / "examples" / "tutorial"
 TEXT = """# a study
 until = 24 # hours
