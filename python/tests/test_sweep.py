@@ -228,6 +228,11 @@ class Sweeps(unittest.TestCase):
         self.assertEqual(self.file(rows[3], "scenario.toml").read_text(), bare)
         self.assertEqual(self.replayed(rows[3]), program.told(["run", str(self.folder / "bare.toml")]))
 
+    def test_examples_are_accepted(self) -> None:
+        for file in sorted(SMALL.parent.glob("*.toml")):
+            with self.subTest(file.name):
+                self.assertTrue(program.told(["check", str(file)]).startswith("sims"))
+
     def test_what_is_done_is_kept(self) -> None:
         first = ["--set", "entities.counter.params.first=1,4"]
         self.assertEqual(self.sweep(*first)[0], 0)
