@@ -5,7 +5,8 @@
 where they are missing. The other machine has an address, a home folder and an sshd of its own, and only a cable (a
 veth pair) leads there. What is tried: a study whose simulator is started by ssh, two such simulators, one that is
 reached by `connect` through a tunnel, a connection that is ended, a cable that is pulled, `resume` after each, and a
-host that isn't there. Then it measures what a round trip costs. The last line is 'N passed, M failed'.
+host that isn't there. Then it measures over 2,000 steps what a round trip costs; `run_ssh.py PROGRAM N` over N. The
+last line is 'N passed, M failed'.
 """
 
 from __future__ import annotations
@@ -168,7 +169,7 @@ class Trial:
         """Counts a case, and prints what differs."""
         is_right = got == want
         self.passed, self.failed = self.passed + is_right, self.failed + (not is_right)
-        print(f"{'ok' if is_right else 'FAILED'}: {what}" + ("" if is_right else f": {got!r} and not {want!r}"))
+        print(f"{'ok' if is_right else 'FAILED'}: {what}" + ("" if is_right else f": {got!r} and not {want!r}"), flush=True)
 
     def scenario(self, name: str, **edits: str) -> str:
         """Writes the example's scenario with other texts in it; its name."""
@@ -189,7 +190,7 @@ class Trial:
         ) as ran:  # fmt: skip
             yield ran
             try:
-                out, err = ran.communicate(timeout=120)
+                out, err = ran.communicate(timeout=600)
             except subprocess.TimeoutExpired:
                 ran.kill()
                 out, err = ran.communicate()
@@ -246,7 +247,7 @@ class Trial:
             time.sleep(1.5)
             began = time.monotonic()
             break_it()
-            ran.wait(60)
+            ran.wait(300)
             seconds = time.monotonic() - began
         line = self.ended.err.strip().splitlines()[-1:]
         self.equal(f"{what}: the run ends", (self.ended.status, line), (5, ["mosaikrun: run 5: House-0 closed its link"]))
@@ -285,9 +286,8 @@ class Trial:
             self.equal(f"the host {host}", (ran.status, last), (6, ["mosaikrun: outside: fleet"]))
             print(f"    after {ran.seconds:.1f} s; printed: {ran.err.strip()!r}")
 
-    def measure(self) -> None:
+    def measure(self, steps: int) -> None:
         """What a round trip costs: a step of this study makes two, one for the step and one for its outputs."""
-        steps = 2000
         for what, edits in [
             ("on this machine", {"command": ""}),
             ("through ssh, over the cable", {}),
@@ -303,7 +303,7 @@ class Trial:
 
 def main() -> int:
     """Tries all, and says what it came to."""
-    if len(sys.argv) != 2 or os.getuid():
+    if len(sys.argv) not in (2, 3) or os.getuid():
         print(__doc__, file=sys.stderr)
         return 2
     install()
@@ -322,7 +322,7 @@ def main() -> int:
             trial.tunnel()
             trial.early()
             trial.missing()
-            trial.measure()
+            trial.measure(int(sys.argv[2]) if sys.argv[2:] else 2000)
         finally:
             other.end()
     print(f"{trial.passed} passed, {trial.failed} failed")
