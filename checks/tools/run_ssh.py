@@ -17,6 +17,7 @@ import pathlib
 import shlex
 import shutil
 import signal
+import socket
 import subprocess
 import sys
 import tempfile
@@ -55,6 +56,20 @@ StrictModes no
 UsePAM no
 Subsystem sftp internal-sftp
 """
+# answers what comes, as a simulator that has nothing to calculate
+ECHO = """import socket, sys
+link = socket.create_connection(("127.0.0.1", int(sys.argv[1])))
+link.setsockopt(socket.IPPROTO_TCP, socket.TCP_NODELAY, 1)
+while came := link.recv(100):
+    link.sendall(came)
+"""
+# what the cases change in the example's scenario
+PLACES = {
+    "pause": "pause = 0",
+    "host": " other ",
+    "until": "until = 96",
+    "command": "ssh -R %(addr)s:%(addr)s other ",
+}
 FAR = 10  # milliseconds that each byte to and from the host `far` takes
 FAR_NAME = "each way"
 
@@ -82,6 +97,15 @@ def install() -> None:
     if missing:
         environment = {**os.environ, "DEBIAN_FRONTEND": "noninteractive"}
         called("apt-get", "install", "-y", "--no-install-recommends", *missing, env=environment)
+
+
+def trip(link: socket.socket) -> float:
+    """How many seconds it takes until 60 bytes are back."""
+    began, left = time.perf_counter(), 60
+    link.sendall(b"-" * left)
+    while left:
+        left -= len(link.recv(left))
+    return time.perf_counter() - began
 
 
 class Other:
@@ -175,8 +199,7 @@ class Trial:
         """Writes the example's scenario with other texts in it; its name."""
         text = (EXAMPLES / name).read_text(encoding="utf-8")
         for old, new in {"pause": "pause = 0", **edits}.items():
-            found = {"pause": "pause = 0", "host": " other ", "until": "until = 96", "command": "ssh -R %(addr)s:%(addr)s other "}
-            text = text.replace(found[old], new)
+            text = text.replace(PLACES[old], new)
         (self.here / "study.toml").write_text(text, encoding="utf-8")
         return "study.toml"
 
@@ -286,6 +309,22 @@ class Trial:
             self.equal(f"the host {host}", (ran.status, last), (6, ["mosaikrun: outside: fleet"]))
             print(f"    after {ran.seconds:.1f} s; printed: {ran.err.strip()!r}")
 
+    def trips(self) -> None:
+        """What a round trip of 60 bytes costs without mosaikrun: here, through ssh, and through ssh to a far host."""
+        for folder in (self.here, self.other.home):
+            (folder / "echo.py").write_text(ECHO, encoding="ascii")
+        tunnel = ["ssh", "-R", "127.0.0.1:PORT:127.0.0.1:PORT"]
+        ways = [("here", 2000, []), ("by ssh", 2000, [*tunnel, "other"]), ("far", 100, [*tunnel, "far"])]
+        for what, count, words in ways:
+            with socket.create_server(("127.0.0.1", 0)) as server:
+                port = str(server.getsockname()[1])
+                call = [word.replace("PORT", port) for word in [*words, "python3", "echo.py", "PORT"]]
+                with self.begun(*call), server.accept()[0] as link:
+                    link.setsockopt(socket.IPPROTO_TCP, socket.TCP_NODELAY, 1)
+                    times = sorted(trip(link) for _ in range(count))
+            median = times[count // 2] * 1e6
+            print(f"    60 bytes there and back, {what}: median {median:.0f} microseconds, least {times[0] * 1e6:.0f}")
+
     def measure(self, steps: int) -> None:
         """What a round trip costs: a step of this study makes two, one for the step and one for its outputs."""
         for what, edits in [
@@ -322,6 +361,7 @@ def main() -> int:
             trial.tunnel()
             trial.early()
             trial.missing()
+            trial.trips()
             trial.measure(int(sys.argv[2]) if sys.argv[2:] else 2000)
         finally:
             other.end()
