@@ -98,8 +98,9 @@ class Cluster:
         (room / "munge.key").chmod(0o400)
         ports = {"control": free_port(), "daemon": free_port(), "processors": len(os.sched_getaffinity(0))}
         (room / "slurm.conf").write_text(CONFIG.format(host=host, room=room, **ports), encoding="ascii")
-        files = [f"--{name}={room}/munge.{end}" for name, end in {"key-file": "key", "pid-file": "pid", "seed-file": "seed"}.items()]
-        self.daemon("munged", "--foreground", "--force", f"--socket={room}/munge.socket", f"--log-file={room}/munge.log", *files)
+        kinds = {"key-file": "key", "pid-file": "pid", "seed-file": "seed", "log-file": "log", "socket": "socket"}
+        files = [f"--{name}={room}/munge.{end}" for name, end in kinds.items()]
+        self.daemon("munged", "--foreground", "--force", *files)
         self.awaited((room / "munge.socket").exists, "munge")
         self.daemon("slurmctld", "-D", "-f", f"{room}/slurm.conf")
         self.daemon("slurmd", "-D", "-f", f"{room}/slurm.conf", "-N", host)
@@ -157,7 +158,8 @@ class Trial:
         """Counts a case, and prints what differs."""
         is_right = got == want
         self.passed, self.failed = self.passed + is_right, self.failed + (not is_right)
-        print(f"{'ok' if is_right else 'FAILED'}: {what}" + ("" if is_right else f": {got!r} and not {want!r}"), flush=True)
+        differs = "" if is_right else f": {got!r} and not {want!r}"
+        print(f"{'ok' if is_right else 'FAILED'}: {what}{differs}", flush=True)
 
     @contextlib.contextmanager
     def begun(self, *words: str) -> Iterator[subprocess.Popen]:
@@ -187,7 +189,8 @@ class Trial:
         self.equal("a sweep by Slurm", (ran.status, len(self.table("b"))), (0, 6))
         self.equal("its table is the same", self.table("b"), self.table("a"))
         print("    " + ran.err.strip().replace("\n", "\n    "))
-        self.equal("options reach the job", "#SBATCH --comment=trial\n" in (self.here / "b/slurm/job.sh").read_text(), True)
+        script = (self.here / "b/slurm/job.sh").read_text(encoding="utf-8")
+        self.equal("options reach the job", "#SBATCH --comment=trial\n" in script, True)
 
     def running(self, name: str, count: int) -> None:
         """Waits until so many runs of a sweep have begun."""
@@ -244,7 +247,8 @@ class Trial:
                 self.equal(f"{count} runs of the bare program, {side} at once", set(pool.map(bare, range(count))), {0})
             self.rate(count, time.monotonic() - began)
         sets = ["--set", f"entities.houses.params.start=0..{count - 1}"]
-        for name, words in {"here": ["--jobs", str(jobs)], "again": [], "by Slurm": ["--jobs", str(jobs), "--slurm"]}.items():
+        many = ["--jobs", str(jobs)]
+        for name, words in {"here": many, "again": [], "by Slurm": [*many, "--slurm"]}.items():
             out = "slurm" if words[2:] else "local"
             ran = self.sweep("small.toml", "--out", out, *sets, *words)
             self.equal(f"{count} runs of a sweep, {name}", (ran.status, len(self.table(out))), (0, count))

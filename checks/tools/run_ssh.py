@@ -63,6 +63,7 @@ link.setsockopt(socket.IPPROTO_TCP, socket.TCP_NODELAY, 1)
 while came := link.recv(100):
     link.sendall(came)
 """
+CLOSED = "mosaikrun: run 5: House-0 closed its link"
 # what the cases change in the example's scenario
 PLACES = {
     "pause": "pause = 0",
@@ -193,7 +194,8 @@ class Trial:
         """Counts a case, and prints what differs."""
         is_right = got == want
         self.passed, self.failed = self.passed + is_right, self.failed + (not is_right)
-        print(f"{'ok' if is_right else 'FAILED'}: {what}" + ("" if is_right else f": {got!r} and not {want!r}"), flush=True)
+        differs = "" if is_right else f": {got!r} and not {want!r}"
+        print(f"{'ok' if is_right else 'FAILED'}: {what}{differs}", flush=True)
 
     def scenario(self, name: str, **edits: str) -> str:
         """Writes the example's scenario with other texts in it; its name."""
@@ -273,7 +275,7 @@ class Trial:
             ran.wait(300)
             seconds = time.monotonic() - began
         line = self.ended.err.strip().splitlines()[-1:]
-        self.equal(f"{what}: the run ends", (self.ended.status, line), (5, ["mosaikrun: run 5: House-0 closed its link"]))
+        self.equal(f"{what}: the run ends", (self.ended.status, line), (5, [CLOSED]))
         print(f"    after {seconds:.1f} s; printed: {self.ended.err.strip()!r}")
         self.other.pull(False)
         more = self.run("resume", study, "study.record", "--record", "study.record")
@@ -299,7 +301,7 @@ class Trial:
             time.sleep(3)
             ran = self.run("run", "tunnel.toml")
             tunnel.terminate()
-        self.equal("a tunnel and nobody behind it", ran.err.splitlines()[-1:], ["mosaikrun: run 5: House-0 closed its link"])
+        self.equal("a tunnel and nobody behind it", ran.err.splitlines()[-1:], [CLOSED])
 
     def missing(self) -> None:
         """A host that isn't there, and one whose key isn't known, are said within seconds."""
