@@ -109,6 +109,12 @@ def trip(link: socket.socket) -> float:
     return time.perf_counter() - began
 
 
+def listens(port: int) -> bool:
+    """Whether somebody listens at the port, by the system's table: a trial would be a connection."""
+    rows = [line.split() for line in pathlib.Path("/proc/net/tcp").read_text(encoding="ascii").splitlines()[1:]]
+    return any(row[1].endswith(f":{port:04X}") and row[3] == "0A" for row in rows)
+
+
 class Other:
     """The other machine: a network namespace with a home folder and an sshd, at the other end of a cable."""
 
@@ -298,7 +304,8 @@ class Trial:
     def early(self) -> None:
         """Through a tunnel behind which nobody waits the handshake fails."""
         with self.begun(str(self.ssh), "-N", "-L", "127.0.0.1:5994:127.0.0.1:5994", "other") as tunnel:
-            time.sleep(3)
+            while not listens(5994) and tunnel.poll() is None:
+                time.sleep(0.05)
             ran = self.run("run", "tunnel.toml")
             tunnel.terminate()
         self.equal("a tunnel and nobody behind it", ran.err.splitlines()[-1:], [CLOSED])

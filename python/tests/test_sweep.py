@@ -15,9 +15,11 @@ import tempfile
 import time
 import unittest
 
-from mosaikrun import paths, program, sweep
-
 ROOT = pathlib.Path(__file__).resolve().parents[2]
+sys.path.insert(0, str(ROOT / "python"))
+
+from mosaikrun import paths, program, sweep  # noqa: E402
+
 SMALL = ROOT / "examples" / "many" / "small.toml"
 LINK = ROOT / "examples" / "tutorial"
 TEXT = """# a study
@@ -285,7 +287,8 @@ class Sweeps(unittest.TestCase):
         more, out = ["--set", "entities.counter.params.first=1,2,4", "--jobs", "2"], self.folder / "out"
         words = [sys.executable, "-m", "mosaikrun.sweep", "counted.toml", "--out", "out", "--watch", "w.toml", *more]
         (self.folder / "hold").touch()
-        with subprocess.Popen(words, cwd=self.folder, stderr=subprocess.PIPE, text=True) as ran:
+        environment = {**os.environ, "PYTHONPATH": str(ROOT / "python")}
+        with subprocess.Popen(words, cwd=self.folder, env=environment, stderr=subprocess.PIPE, text=True) as ran:
             limit = time.monotonic() + 120
             while len(list(out.glob("runs/*/held"))) < 2 and time.monotonic() < limit:
                 time.sleep(0.02)
