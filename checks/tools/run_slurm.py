@@ -267,6 +267,8 @@ def main() -> int:
         print(__doc__, file=sys.stderr)
         return 2
     install()
+    # an end from outside takes down what was set up, too
+    signal.signal(signal.SIGTERM, signal.default_int_handler)
     with tempfile.TemporaryDirectory(prefix="mosaikrun-slurm-") as folder:
         room = pathlib.Path(folder)
         cluster = Cluster(room)

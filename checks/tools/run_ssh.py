@@ -355,6 +355,8 @@ def main() -> int:
         print(__doc__, file=sys.stderr)
         return 2
     install()
+    # an end from outside takes down what was set up, too
+    signal.signal(signal.SIGTERM, signal.default_int_handler)
     with tempfile.TemporaryDirectory(prefix="mosaikrun-ssh-") as folder:
         room = pathlib.Path(folder)
         other = Other(room)
