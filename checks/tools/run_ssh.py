@@ -34,7 +34,9 @@ CONFIG = """Host other far
   User root
   IdentityFile {room}/key
   UserKnownHostsFile {room}/known
+  ConnectTimeout 30
 Host far
+  ServerAliveInterval 10
   ProxyCommand {python} {delay} {there} 2222 {milliseconds}
 Host missing
   HostName 10.231.77.99
