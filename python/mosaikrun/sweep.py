@@ -1,7 +1,7 @@
 """Parameter studies: makes a scenario of each combination of values, runs them all, and gathers one table.
 
 `python3 -m mosaikrun.sweep SCENARIO --set PATH=VALUE,VALUE,.. --out DIR` runs them on this machine, with `--slurm` on a
-cluster, with `--dask ADDRESS` by dask.distributed. Called again it goes on where it was stopped. docs/sweep.md is its
+cluster, with `--dask ADDRESS` by dask.distributed. Called again it goes on where it was stopped. docs/many-runs.md is its
 page. The status is 0 where all runs ended with 0, 1 where one didn't, 2 where the words are wrong, and 130 after
 Ctrl-C.
 """

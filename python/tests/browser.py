@@ -86,6 +86,11 @@ class Browser:
         line, _, self._rest = self._rest.partition(b"\0")
         return json.loads(line)
 
+    def looks(self, width: int, scheme: str) -> None:
+        """Gives the window a width, and the colours `light` or `dark`."""
+        self.order("Emulation.setDeviceMetricsOverride", width=width, height=900, deviceScaleFactor=1, mobile=False)
+        self.order("Emulation.setEmulatedMedia", features=[{"name": "prefers-color-scheme", "value": scheme}])
+
     def open(self, url: str) -> None:
         """Opens a page of the program `view`, and waits until it is drawn."""
         self.events.clear()

@@ -15,10 +15,12 @@ import tempfile
 import time
 import unittest
 
-from mosaikrun import paths, program, sweep
-
 ROOT = pathlib.Path(__file__).resolve().parents[2]
-SMALL = ROOT / "examples" / "sweep" / "small.toml"
+sys.path.insert(0, str(ROOT / "python"))
+
+from mosaikrun import paths, program, sweep  # noqa: E402
+
+SMALL = ROOT / "examples" / "many" / "small.toml"
 LINK = ROOT / "examples" / "tutorial"
 TEXT = """# a study
 until = 24 # hours
@@ -228,6 +230,11 @@ class Sweeps(unittest.TestCase):
         self.assertEqual(self.file(rows[3], "scenario.toml").read_text(), bare)
         self.assertEqual(self.replayed(rows[3]), program.told(["run", str(self.folder / "bare.toml")]))
 
+    def test_examples_are_accepted(self) -> None:
+        for file in sorted(SMALL.parent.glob("*.toml")):
+            with self.subTest(file.name):
+                self.assertTrue(program.told(["check", str(file)]).startswith("sims"))
+
     def test_what_is_done_is_kept(self) -> None:
         first = ["--set", "entities.counter.params.first=1,4"]
         self.assertEqual(self.sweep(*first)[0], 0)
@@ -280,7 +287,8 @@ class Sweeps(unittest.TestCase):
         more, out = ["--set", "entities.counter.params.first=1,2,4", "--jobs", "2"], self.folder / "out"
         words = [sys.executable, "-m", "mosaikrun.sweep", "counted.toml", "--out", "out", "--watch", "w.toml", *more]
         (self.folder / "hold").touch()
-        with subprocess.Popen(words, cwd=self.folder, stderr=subprocess.PIPE, text=True) as ran:
+        environment = {**os.environ, "PYTHONPATH": str(ROOT / "python")}
+        with subprocess.Popen(words, cwd=self.folder, env=environment, stderr=subprocess.PIPE, text=True) as ran:
             limit = time.monotonic() + 120
             while len(list(out.glob("runs/*/held"))) < 2 and time.monotonic() < limit:
                 time.sleep(0.02)

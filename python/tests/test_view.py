@@ -9,6 +9,7 @@ import json
 import os
 import pathlib
 import re
+import subprocess
 import sys
 import tempfile
 import unittest
@@ -236,6 +237,20 @@ class WithProgram(Folder):
         self.assertEqual((status, said), (0, ""))
         self.assertEqual(self.data(made)["records"][0]["trouble"], [])
 
+    def test_example(self) -> None:
+        """The study of examples/many that is to be looked at runs, and its page has connections of each kind."""
+        record = str(self.folder / "week.record")
+        words = [program.find(), "run", "week.toml", "--record", record]
+        ran = subprocess.run(words, cwd=ROOT / "examples" / "many", capture_output=True, text=True, check=False)
+        self.assertEqual((ran.returncode, ran.stderr), (0, ""))
+        status, said, made = self.run_view(record)
+        self.assertEqual((status, said), (0, ""))
+        shown = self.data(made)["records"][0]
+        self.assertEqual({one[4] for one in shown["connections"]}, {"plain", "shift", "weak"})
+        names = [sim["id"] for sim in shown["simulators"]]
+        pairs = [[names[first], names[second]] for first, second in shown["asynchronous"]]
+        self.assertEqual(pairs, [["Grid-0", "Monitor-0"]])
+
     def test_version_1(self) -> None:
         status, said, made = self.run_view(str(ROOT / "examples" / "counter-to-sum.record"))
         self.assertEqual((status, said), (0, ""))
@@ -300,11 +315,15 @@ class InChromium(Folder):
         path.write_text(page.page({"records": records, "blame": {"equal": False, "blamed": blamed}}), encoding="utf-8")
         shows = browser.Browser(browser.installed())
         self.addCleanup(shows.close)
-        shows.open(path.as_uri())
-        self.look(shows)
-        self.keys(shows)
-        self.assertEqual(shows.faults(), [])
-        self.assertEqual([url for url in shows.asked() if not url.startswith(("file:", "data:"))], [])
+        for width, scheme in [(1280, "light"), (420, "dark")]:
+            with self.subTest(width=width, scheme=scheme):
+                shows.looks(width, scheme)
+                shows.open(path.as_uri())
+                self.look(shows)
+                self.assertLessEqual(shows.value("document.documentElement.scrollWidth"), width)
+                self.keys(shows)
+                self.assertEqual(shows.faults(), [])
+                self.assertEqual([url for url in shows.asked() if not url.startswith(("file:", "data:"))], [])
 
     def look(self, shows: browser.Browser) -> None:
         """Everything is drawn."""

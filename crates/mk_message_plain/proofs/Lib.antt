@@ -1,4 +1,4 @@
 -- The lemmas of mk_message_plain, by their files.
 mod Bytes
-mod Members
+pub mod Members
 mod Messages

@@ -1,13 +1,10 @@
 -- Lines that lead from one state to another: how many of them are entries, and how they are read.
-use Rattle.std.proofs.Common.{◌≡◌, ℕ, ◌+◌, ◌<◌, ◌≤◌, Bool, true, false, cond, List, [], ◌∷◌, ◌++◌, length, None, refl, sym, ap, ◌∙◌, subst, arith}
-use Rattle.std.specs.Prelude.{codes, Option}
-use Rattle.std.specs.List.{filter, list_all}
-use Rattle.std.proofs.lemmas.Bool.{and_parts}
-use Rattle.mk_record_read.specs.Reading.{State, Going, before_lines, line_step}
-use Rattle.mk_record_laws.proofs.Clean.{all_clean}
-use Rattle.mk_record_mend.specs.Mended.{ends_in_entry, is_entry, text_of_lines}
+use Rattle.std.proofs.Common.{◌≡◌, ℕ, ◌+◌, ◌≤◌, Bool, true, false, cond, List, [], ◌∷◌, length, refl, sym, ap, ◌∙◌, arith}
+use Rattle.std.specs.List.{filter}
+use Rattle.mk_record_read.specs.Reading.{State, before_lines}
+use Rattle.mk_record_mend.specs.Mended.{ends_in_entry, is_entry}
 use Rattle.mk_record_mend.specs.Whole.{Leads}
-use Rattle.mk_record_mend.proofs.EntryKinds.{IsFresh, Moved, line_moves, lines_in}
+use Rattle.mk_record_mend.proofs.EntryKinds.{IsFresh, line_moves, lines_in}
 
 pub first_counts : (b : Bool) (line : List ℕ) (lines : List (List ℕ)) → length (cond b (line ∷ lines) lines) ≡ cond b 1 0 + length lines
 first_counts true line lines = omega arith

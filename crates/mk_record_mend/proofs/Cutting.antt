@@ -1,5 +1,5 @@
 -- A record that is cut after its first entry: mended, it is the record of a beginning of the journal.
-use Rattle.std.proofs.Common.{◌≡◌, ℕ, zero, suc, ◌+◌, ◌-◌, ◌^◌, ◌<◌, ◌≤◌, Bool, true, false, nat_le, List, [], ◌∷◌, ◌++◌, inl, inr, ◌⊎◌, length, length-append, map, flat_map, take, Option, Some, None, refl, sym, ap, ◌∙◌, subst, arith, append_assoc}
+use Rattle.std.proofs.Common.{◌≡◌, ℕ, zero, suc, ◌+◌, ◌-◌, ◌<◌, ◌≤◌, Bool, true, false, nat_le, List, [], ◌∷◌, ◌++◌, inl, inr, ◌⊎◌, length, length-append, map, flat_map, take, Some, refl, sym, ap, ◌∙◌, subst, arith, append_assoc}
 use Rattle.std.specs.Prelude.{codes}
 use Rattle.std.specs.Fmt.{decimal, signed_decimal}
 use Rattle.std.specs.List.{filter, list_all, slice_split}
@@ -19,8 +19,8 @@ use Rattle.mk_plan.specs.declared.Entry.{Entry}
 use Rattle.mk_plan.specs.declared.Entry.TheVariants.{Sent, Got}
 use Rattle.mk_plan.specs.declared.Item.TheVariants as items
 use Rattle.mk_plan.specs.Journals.{arrivals}
-use Rattle.mk_record_read.specs.Entries.{RecordEntry, entries_of, entry_of}
-use Rattle.mk_record_read.specs.Reading.{Said, is_feed, reading}
+use Rattle.mk_record_read.specs.Entries.{RecordEntry, entries_of}
+use Rattle.mk_record_read.specs.Reading.{is_feed, reading}
 use Rattle.mk_record_read.specs.Texts.{async_line, bool_text, conn_line, entity_line, entry_line, initial_text, model_line, plan_text, record_text, run_line, sim_line, via_text}
 use Rattle.mk_record_laws.specs.Again.{IsRecordable, entry_fits, steps_of}
 use Rattle.mk_record_laws.proofs.Clean.{clean, all_clean, clean-append, clean-decimal}

@@ -1,13 +1,13 @@
 -- The text that is made of bytes whose last line feed stands at a known place.
-use Rattle.std.proofs.Common.{◌≡◌, ℕ, ◌+◌, ◌-◌, ◌≤◌, Bool, true, false, cond, List, [], ◌∷◌, ◌++◌, length, length-append, length-drop, Option, Some, None, take, drop, refl, sym, ap, ◌∙◌, subst, arith, append_assoc}
+use Rattle.std.proofs.Common.{◌≡◌, ℕ, ◌+◌, ◌-◌, ◌≤◌, Bool, true, false, cond, List, [], ◌∷◌, ◌++◌, length, length-append, length-drop, Some, None, take, drop, sym, ap, ◌∙◌, subst, arith, append_assoc}
 use Rattle.std.specs.Prelude.{codes}
 use Rattle.std.specs.Fmt.{decimal}
 use Rattle.std.specs.List.{filter, slice_split}
 use Rattle.std.proofs.lemmas.List.{take_all, take_at}
 use Rattle.std.proofs.Math.Seq.{drop-append_seam}
 use Rattle.mk_record_read.specs.Reading.{is_feed}
-use Rattle.mk_record_mend.specs.Mended.{end_line, ends_in_entry, is_entry, mended, whole_lines}
-use Rattle.mk_record_mend.specs.inner.Feeds.{HasNoFeed, IsLastFeed}
+use Rattle.mk_record_mend.specs.Mended.{ends_in_entry, is_entry, mended, whole_lines}
+use Rattle.mk_record_mend.specs.inner.Feeds.{IsLastFeed}
 use Rattle.mk_record_mend.proofs.Counting.{first_counts}
 use Rattle.mk_record_mend.proofs.Pieces.{is_left, last_is, lines_of_cut, mended_cut, no_lines, split_clean, split_feed}
 
@@ -71,9 +71,6 @@ last_counts (x ∷ xs) y =
 pub record Counts (lines rest : List ℕ) (count : ℕ) : Type 0 where
   pub all : count + length (filter is_entry (slice_split is_feed rest)) ≡ length (filter is_entry (slice_split is_feed lines))
   pub low : count + length rest ≤ length lines
-
-pub counts_first : (lines : List ℕ) → Counts lines lines 0
-counts_first lines = record { all = omega arith; low = omega arith }
 
 pub counts_next : (lines rest : List ℕ) (count n one : ℕ) → Counts lines rest count → IsLastFeed rest (Some n) → one ≡ cond (is_entry (take (length rest - (n + 1)) (drop (n + 1) rest))) 1 0 → Counts lines (take n rest) (count + one)
 counts_next lines rest count n one k t is =

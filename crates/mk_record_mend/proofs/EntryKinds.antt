@@ -1,5 +1,5 @@
 -- What a line that goes on adds: the lines of entries are those whose word is `ask` or `got`.
-use Rattle.std.proofs.Common.{◌≡◌, ℕ, ◌+◌, ◌≤◌, ◌==◌, nat_lt, nat_le, Bool, true, false, cond, List, [], ◌∷◌, ◌++◌, length, length-append, Option, Some, None, Result, Ok, Err, refl, sym, ap, ◌∙◌, subst, arith}
+use Rattle.std.proofs.Common.{◌≡◌, ℕ, ◌+◌, ◌≤◌, Bool, true, false, cond, List, [], ◌∷◌, ◌++◌, length, length-append, Option, Some, None, Result, Ok, Err, refl, sym, ap, ◌∙◌, subst, arith}
 use Rattle.std.specs.Prelude.{codes, is_none, not, unwrap_or, ◌&&◌, ◌||◌}
 use Rattle.std.specs.Fmt.{decimal}
 use Rattle.mk_base.specs.Lists.{same_text}
@@ -13,7 +13,7 @@ use Rattle.mk_record_read.specs.declared.kinds.LineKind.TheVariants.{Head, Run, 
 use Rattle.mk_record_read.specs.declared.saved.Asked.{Asked}
 use Rattle.mk_record_read.specs.Fields.{misformed}
 use Rattle.mk_record_read.specs.Lines.{arrival_in, asked_in}
-use Rattle.mk_record_read.specs.Reading.{State, Step, Going, Ended, Bad, arrived, asked, end_step, ends_plan, head_step, invalid, is_number, is_second, items_read, kind_of_word, kind_step, known_step, line_step, may_stand, miscounted, part_step, place, plan_step, planned, rest_of, steps_in, with_part, word_of}
+use Rattle.mk_record_read.specs.Reading.{State, Step, Going, Ended, Bad, arrived, asked, ends_plan, invalid, is_number, is_second, items_read, kind_of_word, kind_step, known_step, line_step, may_stand, miscounted, part_step, place, planned, rest_of, steps_in, with_part, word_of}
 use Rattle.mk_record_mend.specs.Mended.{is_entry}
 
 -- the word of a line says that it is an entry

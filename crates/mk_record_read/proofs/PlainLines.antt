@@ -1,14 +1,13 @@
 -- What is written plainly is read as it stands.
-use Rattle.std.proofs.Common.{◌≡◌, ℕ, ℤ, suc, pred, max, ◌<◌, ◌≤◌, ◌^◌, ◌++◌, ◌&&◌, pos, nat_abs, true, List, [], ◌∷◌, length, map, Some, Ok, option_and_then, int_le, int_lt, decimal, refl, sym, ap, ap₂, ◌∙◌, subst, arith, append_assoc}
+use Rattle.std.proofs.Common.{◌≡◌, ℕ, ℤ, suc, ◌<◌, ◌≤◌, ◌^◌, pos, true, List, [], ◌∷◌, length, map, Some, Ok, option_and_then, decimal, refl, sym, ap, ap₂, ◌∙◌, subst, arith}
 use Rattle.std.proofs.lemmas.Bool.{and_from}
 use Rattle.std.proofs.lemmas.Int.{ints}
 use Rattle.std.specs.List.{list_all}
-use Rattle.std.specs.Result.{result_ok}
 use Rattle.mk_base.specs.declared.json.Json as tree
 use Rattle.mk_base.specs.declared.json.Json.{Json}
 use Rattle.mk_base.specs.Proper.{is_proper}
 use Rattle.mk_base.specs.Texts.{text_of, list_text}
-use Rattle.mk_base.specs.Trees.{is_in_range, items_in, whole_in, nesting}
+use Rattle.mk_base.specs.Trees.{is_in_range, items_in, nesting}
 use Rattle.mk_base.proofs.Counts.{pos_in_range}
 use Rattle.mk_base.proofs.Views.{items_in_list, whole_in_whole}
 use Rattle.mk_json.specs.Parsed.{parsed}
@@ -20,6 +19,7 @@ use Rattle.mk_json.proofs.Values.{nesting-more}
 use Rattle.mk_message.specs.Messages.{message_in, message_of, tested}
 use Rattle.mk_message.specs.Written.{message_tree, message_text}
 use Rattle.mk_message_plain.specs.Plain.{IsWritten}
+use Rattle.mk_message_plain.proofs.Members.{max_up_to}
 use Rattle.mk_plan.specs.declared.Message.{Message}
 use Rattle.mk_plan.specs.declared.Plan.{Plan}
 use Rattle.mk_record_read.specs.declared.saved.Asked.{Asked}
@@ -36,12 +36,8 @@ read_items ts text is proper ranges shallow =
 
 -- ---- how deep a list nests
 
-no_deeper : (a b n : ℕ) → a ≤ n → b ≤ suc n → suc (max a (pred b)) ≤ suc n
-no_deeper a 0 n h k = omega (arith, h)
-no_deeper a (suc b) n h k = omega (arith, h, k)
-
 one_more : (n : ℕ) (t : Json) (ts : List Json) → nesting t ≤ n → nesting (tree.List ts) ≤ suc n → nesting (tree.List (t ∷ ts)) ≤ suc n
-one_more n t ts h k = subst (λ m. m ≤ suc n) (sym (nesting-more t ts)) (no_deeper (nesting t) (nesting (tree.List ts)) n h k)
+one_more n t ts h k = subst (λ m. m ≤ suc n) (sym (nesting-more t ts)) (max_up_to (nesting t) (nesting (tree.List ts)) n h k)
 
 none_yet : (n : ℕ) → nesting (tree.List []) ≤ suc n
 none_yet n = subst (λ m. m ≤ suc n) (sym (folded-List _ _ [])) (omega arith)
@@ -107,9 +103,10 @@ wholes_read ns text is small =
     let shallow = wholes_shallow ns in
     read_items (wholes ns) text (is ∙ sym (folded-List _ _ (wholes ns) ∙ ap list_text (wholes_text ns))) (wholes_proper ns) (wholes_in_range ns small) (omega (arith, shallow))
 
-pub asks : (P : Plan) (before : ℕ) (text : List ℕ) (number time tier advance sim : ℕ) (a : Asked) → text ≡ list_text (decimal number ∷ decimal time ∷ decimal tier ∷ decimal advance ∷ []) → AreSmall (number ∷ time ∷ tier ∷ advance ∷ [])
-    → sim ≡ number → sim < length P.sims → step_asked before sim (pos time) (pos tier) (pos advance) ≡ Ok a → tested misformed (items_read text) (asked_in P before) ≡ Ok a
-asks P before text number time tier advance sim a is small same less told =
+pub asks : (P : Plan) (before : ℕ) (text : List ℕ) (number time tier advance sim : ℕ) (t k v : ℤ) (a : Asked) → text ≡ list_text (decimal number ∷ decimal time ∷ decimal tier ∷ decimal advance ∷ []) → AreSmall (number ∷ time ∷ tier ∷ advance ∷ [])
+    → sim ≡ number → sim < length P.sims → step_asked before sim t k v ≡ Ok a → t ≡ pos time → k ≡ pos tier → v ≡ pos advance → tested misformed (items_read text) (asked_in P before) ≡ Ok a
+asks P before text number time tier advance sim t k v a is small same less told at_time at_tier at_advance =
     let here : is_below (length P.sims) (pos number) ≡ true = below_there (length P.sims) number (subst (λ n. n < length P.sims) same less) in
     ap (λ o. tested misformed o (asked_in P before)) (wholes_read (number ∷ time ∷ tier ∷ advance ∷ []) text is small)
-    ∙ rw (whole_in_whole (pos number), whole_in_whole (pos time), whole_in_whole (pos tier), whole_in_whole (pos advance), here) (ap (λ n. step_asked before n (pos time) (pos tier) (pos advance)) (sym same) ∙ told)
+    ∙ rw (whole_in_whole (pos number), whole_in_whole (pos time), whole_in_whole (pos tier), whole_in_whole (pos advance), here)
+    (ap (λ n. step_asked before n (pos time) (pos tier) (pos advance)) (sym same) ∙ ap (λ z. step_asked before sim z (pos tier) (pos advance)) (sym at_time) ∙ ap (λ z. step_asked before sim t z (pos advance)) (sym at_tier) ∙ ap (step_asked before sim t k) (sym at_advance) ∙ told)

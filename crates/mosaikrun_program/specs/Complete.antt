@@ -75,9 +75,9 @@ pub record IsRightRecord (P : Plan) (old : Saved) : Type 0 where
 -- nothing went wrong that a run can show which goes on from a record: the bytes are such a scenario,
 -- whose handshake shows no fault, and, once mended, a record, which, where nothing followed the
 -- handshake, is right by the plan that its answers make, those of simulators with a link being the
--- first messages that were heard there; and a resumed run shows no fault: each simulator repeats its saved messages, and
--- then no message is wrong in its place, no limit is met, no link ends, no frame is garbled or too
--- long, no item is too long for one, no count rises
+-- first messages that were heard there; and a resumed run shows no fault: each simulator repeats its
+-- saved messages, and then no message is wrong in its place, no limit is met, no link ends, no frame
+-- is garbled or too long, no item is too long for one, no count rises
 pub record IsFaultlessResume (O : Outside) (bytes recorded : List ℕ) : Type 0 where
   pub scenario : Scenario
   pub ranks : List ℕ

@@ -98,8 +98,9 @@ pub record HoldsNewRecord (S : Around) (answer : Result (Unit {0}) Ending)
   pub answered : RunAnswer S.folder S.output (Some name) said (Some text) answer
   pub filed : S.folder.files_after ≡ option_map (with_file name text) S.folder.files
 
--- the bytes are a scenario, which can be run, and, once mended, a record, but the handshake ended early, or the record
--- wasn't taken, so that there is no new one; what was said of this is what the answer tells
+-- the bytes are a scenario, which can be run, and, once mended, a record, but the handshake ended
+-- early, or the record wasn't taken, so that there is no new one; what was said of this is what the
+-- answer tells
 pub record IsRefused (S : Around) (answer : Result (Unit {0}) Ending)
     (bytes recorded name : List ℕ) : Type 0 where
   pub study : IsStudy (map name_of S.outside.kinds) bytes

@@ -1,6 +1,4 @@
 -- Answers to the goals of `mending::last_line` that the prover leaves.
-use Rattle.std.proofs.Common.{subst, sym}
-use Rattle.mk_record_mend.specs.inner.Feeds.{IsLastFeed}
 use Rattle.mk_record_mend.proofs.Ends.{last_of_none, last_of_some}
 use Rattle.mk_record_mend.proofs.mending.last_line.Goals as goal
 

@@ -1,0 +1,32 @@
+#!/usr/bin/env python3
+"""Tries a built program with some hostile inputs, simulators and failing calls, each time the same ones.
+
+`run_hostile.py PROGRAM` is the short form of `checks/tools/run_hostile.py`: 10,000 inputs, 200 sessions and 300 faults. It
+needs `cc`, and ends with 'N passed, M failed'.
+"""
+
+from __future__ import annotations
+
+import os
+import pathlib
+import sys
+
+CHECKS = pathlib.Path(__file__).resolve().parents[1]
+sys.path.insert(0, str(CHECKS))
+
+
+def main() -> int:
+    from hostile import faults, inputs, sessions
+
+    program = str(pathlib.Path(sys.argv[1]).resolve())
+    jobs = min(4, len(os.sched_getaffinity(0)))
+    right = wrong = 0
+    for try_all, count in ((inputs.try_all, 10_000), (sessions.try_all, 200), (faults.try_all, 300)):
+        some = try_all(program, count, 1, jobs)
+        right, wrong = right + some[0], wrong + some[1]
+    print(f"{right} passed, {wrong} failed")
+    return 1 if wrong or not right else 0
+
+
+if __name__ == "__main__":
+    sys.exit(main())
