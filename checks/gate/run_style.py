@@ -23,14 +23,10 @@ LONGEST = 30
 README_WORDS = 900
 # for each document that isn't done yet: its long sentences, and its words of the old dialect
 CEILINGS: dict[str, tuple[int, int]] = {
-    "docs/DECISIONS.md": (106, 95),
-    "docs/architecture.md": (65, 58),
-    "docs/claims.md": (183, 241),
-    "docs/definitions.md": (90, 79),
-    "docs/edits.md": (28, 22),
-    "docs/from-mosaik.md": (6, 22),
-    "docs/rules.md": (23, 17),
-    "dist/README.md": (0, 3),
+    # its table of crates has their own first lines
+    "docs/architecture.md": (12, 41),
+    "docs/many-runs.md": (1, 12),
+    "docs/several-machines.md": (1, 9),
 }
 # what isn't said any more, and what is said instead
 DIALECT = {
