@@ -2,13 +2,14 @@
 """Tries a built program with some hostile inputs, simulators and failing calls, each time the same ones.
 
 `run_hostile.py PROGRAM` is the short form of `checks/tools/run_hostile.py`: 10,000 inputs, 200 sessions and 300 faults. It
-needs `cc`, and ends with 'N passed, M failed'.
+needs `cc`: where it isn't there, this is left out and said. It ends with 'N passed, M failed'.
 """
 
 from __future__ import annotations
 
 import os
 import pathlib
+import shutil
 import sys
 
 CHECKS = pathlib.Path(__file__).resolve().parents[1]
@@ -16,6 +17,10 @@ sys.path.insert(0, str(CHECKS))
 
 
 def main() -> int:
+    if shutil.which("cc") is None:
+        print("left out, since cc isn't installed")
+        print("0 passed, 0 failed")
+        return 0
     from hostile import faults, inputs, sessions
 
     program = str(pathlib.Path(sys.argv[1]).resolve())
