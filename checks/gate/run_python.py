@@ -12,6 +12,7 @@ import collections
 import os
 import pathlib
 import re
+import signal
 import subprocess
 import sys
 import tempfile
@@ -46,6 +47,8 @@ def tested(program: pathlib.Path) -> Tuple[str, bool]:
 
 def main() -> int:
     """Runs the tests, and says what failed and what was left out."""
+    # some tests press Ctrl-C, which a program that was started in the background would not hear
+    signal.signal(signal.SIGINT, signal.SIG_DFL)
     said, in_time = tested(pathlib.Path(sys.argv[1]).resolve())
     ran, counts = RAN.findall(said), COUNTS.findall(said)
     if not in_time or not ran or not counts:
