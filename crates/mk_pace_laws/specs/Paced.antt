@@ -25,7 +25,8 @@ use Rattle.mk_setup.specs.Handshakes.{IsMade}
 use Rattle.mk_run_links.specs.Entries.{AreOnOrOfClock, IsRunLink}
 use Rattle.mk_run_crew.specs.Answers.{AreKindAnswers, answers_to}
 use Rattle.mk_run.specs.declared.outcome.Outcome.{Outcome}
-use Rattle.mk_run.specs.Ends.{AreInRange, IsAwaiting}
+use Rattle.mk_onlooker.specs.Showings.{AreInRange}
+use Rattle.mk_run.specs.Ends.{IsAwaiting}
 use Rattle.mk_run.specs.Ran.{HasNotRun}
 use Rattle.mk_run.specs.Ran as ran
 use Rattle.mk_pace_laws.specs.declared.end.Moment.{Moment}

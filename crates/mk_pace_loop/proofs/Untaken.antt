@@ -26,7 +26,8 @@ use Rattle.mk_run_links.proofs.OnEntries.{no_rests}
 use Rattle.mk_run_crew.specs.Seen.{CrewSeen, crew_of}
 use Rattle.mk_run.specs.declared.outcome.Outcome.{Outcome}
 use Rattle.mk_run.specs.declared.outcome.Outcome.TheVariants as outcome
-use Rattle.mk_run.specs.Ends.{AreInRange, IsAwaiting, IsBrokenOff, IsOpenWithin, fault_named}
+use Rattle.mk_onlooker.specs.Showings.{AreInRange}
+use Rattle.mk_run.specs.Ends.{IsAwaiting, IsBrokenOff, IsOpenWithin, fault_named}
 use Rattle.mk_sched.specs.inner.Patient.{IsPatient}
 use Rattle.mk_run.specs.inner.Underway.{Setting, reply_in}
 use Rattle.mk_sched.proofs.Pushed.{patient_got}

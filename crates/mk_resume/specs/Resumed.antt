@@ -40,7 +40,8 @@ use Rattle.mk_run_links.specs.Entries.{AreOn, IsRunLink}
 use Rattle.mk_run_crew.specs.Answers.{AreKindAnswers, answers_to}
 use Rattle.mk_run.specs.declared.outcome.Outcome.{Outcome}
 use Rattle.mk_run.specs.declared.outcome.Outcome.TheVariants as outcome
-use Rattle.mk_run.specs.Ends.{IsUngot, AreInRange, SetupRestsWell}
+use Rattle.mk_onlooker.specs.Showings.{AreInRange}
+use Rattle.mk_run.specs.Ends.{IsUngot, SetupRestsWell}
 use Rattle.mk_run.specs.Ran.{HasNotRun}
 use Rattle.mk_run.specs.Ran as ran
 use Rattle.mk_resume_walk.specs.Talks.{free_items}

@@ -17,7 +17,7 @@ use Rattle.mk_record_read.specs.Steps.{IsKnown}
 use Rattle.mk_record_restored.specs.Restored.{IsRestored}
 use Rattle.mk_run_crew.specs.Begun.{HasBegun}
 use Rattle.mk_run_crew.specs.Seen.{CrewSeen, crew_of}
-use Rattle.mk_run.specs.Ends.{AreInRange}
+use Rattle.mk_onlooker.specs.Showings.{AreInRange}
 use Rattle.mk_run.specs.inner.Underway.{IsUnderway, put, reply_in}
 use Rattle.mk_run.proofs.Beginning.{run_begins, setting_of}
 use Rattle.mk_resume_links.proofs.Catching.{catching_begun}

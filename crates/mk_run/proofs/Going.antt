@@ -31,7 +31,8 @@ use Rattle.mk_run_links.proofs.OnEntries.{on_more}
 use Rattle.mk_run_local.specs.Laws.{RepliesAreKinds}
 use Rattle.mk_run_crew.specs.Seen.{CrewSeen, crew_of, is_here}
 use Rattle.mk_run_crew.specs.Calls.{HasNext, SendsAs}
-use Rattle.mk_run.specs.Ends.{AreInRange, SetupRestsWell}
+use Rattle.mk_onlooker.specs.Showings.{AreInRange}
+use Rattle.mk_run.specs.Ends.{SetupRestsWell}
 use Rattle.mk_sched.specs.inner.Patient.{IsPatient}
 use Rattle.mk_run.specs.inner.Underway.{Setting, reply_in, Suits, HasNoOther, HaveCome, IsLogRight, IsUnderway, local_at}
 use Rattle.mk_run.proofs.LoopSteps.{asked_link, asked_inside, asked_opens, asked_id, asked_ready}

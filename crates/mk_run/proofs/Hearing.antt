@@ -37,7 +37,8 @@ use Rattle.mk_run_local.specs.Calls.{IsFitSuccess}
 use Rattle.mk_run_local.specs.Laws.{HasCome, RepliesAreKinds}
 use Rattle.mk_run_crew.specs.Seen.{CrewSeen, crew_of, is_here}
 use Rattle.mk_run_crew.specs.Calls.{HasNext, SendsAs}
-use Rattle.mk_run.specs.Ends.{AreInRange, IsOpenWithin}
+use Rattle.mk_onlooker.specs.Showings.{AreInRange}
+use Rattle.mk_run.specs.Ends.{IsOpenWithin}
 use Rattle.mk_sched.specs.inner.Patient.{IsPatient}
 use Rattle.mk_run.specs.inner.Underway.{Setting, reply_in, Suits, HasNoOther, HaveCome, IsLogRight, IsUnderway, HasHeard, IsAhead}
 use Rattle.mk_run.proofs.LoopSteps.{none_owed, owed_after, answered_opens, answered_id, taken_quietly, taken_on_link, taken_inside}

@@ -15,7 +15,7 @@ use Rattle.mk_sched.proofs.Pushed.{last_or_before, sent_not_got}
 use Rattle.mk_run_laws.specs.Kinds.{Replies, KeepsToKinds}
 use Rattle.mk_run_laws.specs.Running.{RestsEnd}
 use Rattle.mk_run_laws.specs.inner.Running.{RestsOver}
-use Rattle.mk_run.specs.Ends.{AreInRange}
+use Rattle.mk_onlooker.specs.Showings.{AreInRange}
 use Rattle.mk_base.proofs.Items.{not_empty, same_heads}
 use Rattle.mk_plan.specs.Messages.{is_message_in_range}
 use Rattle.mk_plan.specs.Sequential.{Messages}

@@ -24,6 +24,7 @@ use Rattle.mk_session.specs.Fronts.{BeginsGarbled}
 use Rattle.mk_sched.specs.declared.faults.CoreFault.{CoreFault}
 use Rattle.mk_sched.specs.declared.faults.CoreFault.TheVariants.{TooLong}
 use Rattle.mk_sched.specs.Answers.{IsLastFaulty, SomeOpen, SomeReady, fault_in}
+use Rattle.mk_onlooker.specs.Showings.{AreInRange}
 use Rattle.mk_run_laws.specs.Exchanges.{Exchange}
 use Rattle.mk_run_laws.specs.Hearing.{rest_heard}
 use Rattle.mk_run_laws.specs.Handshake.{sim_link, is_within}
@@ -33,7 +34,6 @@ use Rattle.mk_run_laws.specs.Laws.{IsJournalOf}
 use Rattle.mk_run_links.specs.Entries.{AreOn, IsRunLink}
 use Rattle.mk_run.specs.declared.outcome.Outcome.{Outcome}
 use Rattle.mk_run.specs.declared.outcome.Outcome.TheVariants as outcome
-use Rattle.mk_plan.specs.Messages.{is_message_in_range}
 
 -- every item of the journal was queued; nothing is said of that where one was too long or memory was
 -- wanting
@@ -148,11 +148,6 @@ fault_named outcome.Mem = None
 abbrev pub SetupRestsWell : ℕ → Scenario → List LogEntry → Type 0
 SetupRestsWell started S log = (before after : List LogEntry) → log ≡ before ++ Rest ∷ after
     → (AllSetUp started S before → ⊥) → IsWellInSetup started S before
-
--- the numbers of each message in the journal may be written
-abbrev pub AreInRange : List Entry → Type 0
-AreInRange J = (H : List Entry) (s : SimNo) (m : Message) (more : List Entry)
-    → J ≡ H ++ Got s m ∷ more → is_message_in_range m ≡ true
 
 -- a run with a plan and a journal, over the entries that it added to the log: the plan is valid; the
 -- journal is orderly and eager, keeps to the kinds, has at most as many entries as the plan allows,

@@ -21,7 +21,8 @@ use Rattle.mk_run_laws.specs.Rests.{AllSetUp, IsWellInSetup}
 use Rattle.mk_run_links.specs.Entries.{AreOnOrOfClock, IsRunLink}
 use Rattle.mk_run_laws.specs.inner.Running.{HasChannel}
 use Rattle.mk_run.specs.declared.outcome.Outcome.{Outcome}
-use Rattle.mk_run.specs.Ends.{AreInRange, IsAwaiting, IsFull, IsOpenWithin}
+use Rattle.mk_onlooker.specs.Showings.{AreInRange}
+use Rattle.mk_run.specs.Ends.{IsAwaiting, IsFull, IsOpenWithin}
 use Rattle.mk_sched.specs.inner.Patient.{IsPatient}
 use Rattle.mk_run.specs.inner.Shown.{EndsAs}
 use Rattle.mk_run.specs.inner.Underway.{HasNoOther, Setting, Suits, reply_in}

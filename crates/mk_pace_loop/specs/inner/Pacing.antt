@@ -25,7 +25,7 @@ use Rattle.mk_local.specs.Replies.{IsItemReplied}
 use Rattle.mk_local.specs.Simulators.{Simulator}
 use Rattle.mk_sched.specs.Cores.{Stands}
 use Rattle.mk_run_local.specs.Laws.{HasCome}
-use Rattle.mk_run.specs.Ends.{AreInRange}
+use Rattle.mk_onlooker.specs.Showings.{AreInRange}
 use Rattle.mk_sched.specs.inner.Patient.{IsPatient}
 use Rattle.mk_run.specs.inner.Underway.{HasNoOther, Setting, Suits, local_at, reply_in}
 use Rattle.mk_pace_laws.specs.Moments.{AreMoments, Tempo, moments_of}

@@ -17,7 +17,7 @@ use Rattle.mk_run_laws.specs.Crews.{CrewState, IsHeard}
 use Rattle.mk_run_local.specs.Calls.{IsFitSuccess}
 use Rattle.mk_run_crew.specs.Seen.{CrewSeen, crew_of}
 use Rattle.mk_run_links.specs.Entries.{AreOn, IsRunLink}
-use Rattle.mk_run.specs.Ends.{AreInRange}
+use Rattle.mk_onlooker.specs.Showings.{AreInRange}
 use Rattle.mk_sched.specs.inner.Patient.{IsPatient}
 use Rattle.mk_run.specs.inner.Underway.{Setting, reply_in, Suits, HasNoOther, IsLogRight, exchange_at}
 use Rattle.mk_resume_walk.specs.Talks.{free_items}

@@ -31,7 +31,8 @@ use Rattle.mk_run_local.specs.Calls.{IsFitSuccess}
 use Rattle.mk_run_local.specs.Laws.{HasCome}
 use Rattle.mk_run_local.specs.Made.{kind_reply_of}
 use Rattle.mk_run.specs.declared.outcome.Outcome.{Outcome}
-use Rattle.mk_run.specs.Ends.{AreInRange, QueuedAll, IsAwaiting, IsBrokenOff, IsOpenWithin, IsFull, IsLongItem, SetupRestsWell, fault_named}
+use Rattle.mk_onlooker.specs.Showings.{AreInRange}
+use Rattle.mk_run.specs.Ends.{QueuedAll, IsAwaiting, IsBrokenOff, IsOpenWithin, IsFull, IsLongItem, SetupRestsWell, fault_named}
 use Rattle.mk_run.specs.inner.Shown.{EndsAs}
 use Rattle.mk_run_laws.specs.Exchanges.{Exchange, exchange}
 

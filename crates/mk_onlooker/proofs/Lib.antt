@@ -1,0 +1,2 @@
+-- The lemmas of mk_onlooker, by their files.
+pub mod OnShowings

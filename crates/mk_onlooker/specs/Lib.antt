@@ -1,0 +1,2 @@
+-- The definitions of mk_onlooker, by their files.
+pub mod Showings
