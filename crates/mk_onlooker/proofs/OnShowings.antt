@@ -12,7 +12,7 @@ use Rattle.mk_plan.specs.declared.Message.{Message}
 use Rattle.mk_plan.specs.declared.Entry.{Entry}
 use Rattle.mk_plan.specs.declared.Entry.TheVariants.{Got, Sent}
 use Rattle.mk_plan.specs.Journals.{arrivals, arrival_of}
-use Rattle.mk_onlooker.specs.Showings.{AddsBatch, AddsItems, AreInRange, IsBatch, IsShown, Saw}
+use Rattle.mk_onlooker.specs.Showings.{AddsBatch, AddsItems, AreInRange, IsBatch, IsShown, IsShownOn, Saw}
 
 -- ---- items and batches
 
@@ -82,4 +82,30 @@ module _ {O : Type 0} (looks : O → Plan → List Entry → Bool → O → Type
         ∙ ap (λ l. (had ++ shown.items) ++ (flat_map (λ batch. batch) shown.batches ++ l)) (sym (append_nil a.0))
         ∙ ap (λ l. (had ++ shown.items) ++ l) (sym (flat_map_append (λ batch. batch) shown.batches (a.0 ∷ [])));
     saw = saw_on ((had ++ shown.items) ∷ shown.batches) a.0 old mid new shown.saw (subst (λ l. looks mid P l pause new) (fresh_is J K a.0 a.1) look);
+  }
+
+  -- ---- from a place on
+
+  pub none_shown : (J : List Entry) (o : O) → IsShownOn looks P pause J J o o
+  none_shown J o = record { batches = []; each = tt; all = sym (append_nil J); saw = refl }
+
+  pub shows_on : (H J K : List Entry) (old mid new : O) → IsShownOn looks P pause H J old mid → AddsBatch J K → looks mid P (drop (length J) K) pause new → IsShownOn looks P pause H K old new
+  shows_on H J K old mid new shown a look = record {
+    batches = shown.batches ++ a.0 ∷ [];
+    each = each_append IsBatch shown.batches (a.0 ∷ []) shown.each (a.2, tt);
+    all = a.1 ∙ ap (λ l. l ++ a.0) shown.all ∙ append_assoc H (flat_map (λ batch. batch) shown.batches) a.0
+        ∙ ap (λ l. H ++ (flat_map (λ batch. batch) shown.batches ++ l)) (sym (append_nil a.0))
+        ∙ ap (λ l. H ++ l) (sym (flat_map_append (λ batch. batch) shown.batches (a.0 ∷ [])));
+    saw = saw_on shown.batches a.0 old mid new shown.saw (subst (λ l. looks mid P l pause new) (fresh_is J K a.0 a.1) look);
+  }
+
+  -- all that was there at first, and then the rest
+  pub shown_then : (had J K : List Entry) (old mid new : O) → AddsItems had J → looks old P (drop 0 J) pause mid → IsShownOn looks P pause J K mid new → IsShown looks P pause had K old new
+  shown_then had J K old mid new a look shown = record {
+    items = a.0;
+    unheard = a.2;
+    batches = shown.batches;
+    each = shown.each;
+    all = shown.all ∙ ap (λ l. l ++ flat_map (λ batch. batch) shown.batches) a.1;
+    saw = (mid, subst (λ l. looks old P l pause mid) a.1 look, shown.saw);
   }

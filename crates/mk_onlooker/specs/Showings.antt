@@ -34,6 +34,14 @@ Saw looks P pause [] old new = new ≡ old
 Saw {O} looks P pause (batch ∷ batches) old new = (mid : O) × looks old P batch pause mid
     × Saw looks P pause batches mid new
 
+-- from J on to K the journal was shown batch by batch
+pub record IsShownOn {O : Type 0} (looks : O → Plan → List Entry → Bool → O → Type 0) (P : Plan)
+    (pause : Bool) (J K : List Entry) (old new : O) : Type 0 where
+  pub batches : List (List Entry)
+  pub each : Each IsBatch batches
+  pub all : K ≡ J ++ flat_map (λ batch. batch) batches
+  pub saw : Saw looks P pause batches old new
+
 -- the whole journal was shown: first what was there before anything was heard, and the items that
 -- were sent then; and from there on batch by batch
 pub record IsShown {O : Type 0} (looks : O → Plan → List Entry → Bool → O → Type 0) (P : Plan)

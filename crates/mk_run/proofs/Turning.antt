@@ -31,7 +31,8 @@ use Rattle.mk_run.specs.declared.outcome.Outcome.{Outcome}
 use Rattle.mk_run.specs.inner.Underway.{Setting, reply_in, EndsBy, HasEnded, IsUnderway}
 use Rattle.mk_run.specs.Outcomes.{outcome_of}
 use Rattle.mk_run.specs.inner.Sendings.{CanSend, EndsWithItem, IsUnsent}
-use Rattle.mk_run.specs.inner.Turns.{AreLinksOpen, GoesOn, IsPast, IsStopping, TakesAs, TurnsAs, Waits}
+use Rattle.mk_run.specs.inner.Turns.{AreLinksOpen, AsksAllAs, GoesOn, IsPast, IsStopping, TakesAs, TurnsAs, Waits}
+use Rattle.mk_onlooker.specs.Showings.{AreInRange}
 use Rattle.mk_run.proofs.LoopSteps.{can_hear}
 use Rattle.mk_run.proofs.Endings.{unsent_ends, unheard_ends}
 use Rattle.mk_run.proofs.Going.{asked_low, asked_opened, asked_replied, asked_linked, asked_goes}
@@ -180,14 +181,29 @@ pub heard_turn : (risen : Type 0) (core new : CoreState) (entries : List LogEntr
 heard_turn risen core new entries C D E s m (Ok done) waits h on_links sims fit t = (t.0, λ T log u. t.1 T (log ++ entries) (past_it T core log entries C D s m u waits h on_links sims fit))
 heard_turn risen core new entries C D E s m (Err end) waits h on_links sims fit t = λ T log u. stopping_by ⊥ risen T new (log ++ entries) E end (λ e. absurd e) (t T (log ++ entries) (past_it T core log entries C D s m u waits h on_links sims fit))
 
--- whoever was ready was asked before
-pub asked_turn : (risen : Type 0) (old mid new : CoreState) (entries : List LogEntry) (C D E : CrewSeen) (r : Result (Unit {0}) Outcome) → ((T : Setting) (log : List LogEntry) → GoesOn T old log C → GoesOn T mid log D) → TurnsAs r entries risen mid D new E → TurnsAs r entries risen old C new E
-asked_turn risen old mid new entries C D E (Ok done) goes t = (t.0, λ T log u. t.1 T log (goes T log u))
-asked_turn risen old mid new entries C D E (Err end) goes t = λ T log u. t T log (goes T log u)
+-- whoever was ready was asked then
+pub then_asked : (risen : Type 0) (old mid new : CoreState) (entries : List LogEntry) (C D E : CrewSeen) (r : Result (Unit {0}) Outcome) → (done : Unit {0}) → TurnsAs (Ok done) entries risen old C mid D → AsksAllAs r mid D new E → TurnsAs r entries risen old C new E
+then_asked risen old mid new entries C D E (Ok did) done t a = (a.0, λ T log u. a.2 T (log ++ entries) (t.1 T log u))
+then_asked risen old mid new entries C D E (Err end) done t a = λ T log u. stopping_by ⊥ risen T new (log ++ entries) E end (λ e. absurd e) (a T (log ++ entries) (t.1 T log u))
+
+-- so it waits again, if it goes on
+pub waits_then : (old new : CoreState) (C D : CrewSeen) (r : Result (Unit {0}) Outcome) → AsksAllAs r old C new D → OnOk r (Waits new)
+waits_then old new C D (Ok done) a = a.1
+waits_then old new C D (Err end) a = tt
 
 -- the run ended while whoever was ready was asked
 pub asked_end : (risen : Type 0) (old new : CoreState) (C D : CrewSeen) (end : Outcome) → ((T : Setting) (log : List LogEntry) → GoesOn T old log C → IsStopping ⊥ T new log D end) → TurnsAs (Err end) [] risen old C new D
 asked_end risen old new C D end ends = λ T log u. subst (λ (l : List LogEntry). IsStopping risen T new l D end) (sym (append_nil log)) (stopping_by ⊥ risen T new log D end (λ e. absurd e) (ends T log u))
+
+-- ---- the numbers of what the journal has may be written
+
+pub turned_in_range : (risen : Type 0) (old new : CoreState) (entries : List LogEntry) (C D : CrewSeen) (r : Result (Unit {0}) Outcome) (T : Setting) (log : List LogEntry) → TurnsAs r entries risen old C new D → GoesOn T old log C → AreInRange new.entries
+turned_in_range risen old new entries C D (Ok done) T log t u = (t.1 T log u).in_range
+turned_in_range risen old new entries C D (Err end) T log t u = (t T log u).in_range
+
+pub asked_in_range : (old new : CoreState) (C D : CrewSeen) (r : Result (Unit {0}) Outcome) (T : Setting) (log : List LogEntry) → AsksAllAs r old C new D → GoesOn T old log C → AreInRange new.entries
+asked_in_range old new C D (Ok done) T log a u = (a.2 T log u).in_range
+asked_in_range old new C D (Err end) T log a u = (a T log u).in_range
 
 -- ---- turns one after another
 

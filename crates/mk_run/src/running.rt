@@ -1,5 +1,5 @@
 //! A run over a fleet.
-ghost use Rattle.std.specs.Prelude.{◌≡◌, ◌≤◌, List, [], None, Some, map, true};
+ghost use Rattle.std.specs.Prelude.{◌≡◌, ◌≤◌, List, [], None, Some, map, true, not};
 ghost use Rattle.mk_outside.specs.declared.fleet.LogEntry.{LogEntry};
 ghost use Rattle.mk_outside.specs.Logs.{Adds};
 ghost use Rattle.mk_scenario.specs.Wellformed.{IsWellformed};
@@ -17,6 +17,7 @@ ghost use Rattle.mk_run_crew.specs.Started.{StartsLinks};
 ghost use Rattle.mk_run_crew.specs.Wholly.{is_wholly_within};
 ghost use Rattle.mk_run.specs.Outcomes.{IsWithinOutcome};
 ghost use Rattle.mk_run.specs.Ran.{EndsAtStart, RunsAs};
+ghost use Rattle.mk_onlooker.specs.Showings.{IsShownIn};
 ghost use Rattle.mk_run.specs.inner.Underway.{IsUnderway, Setting};
 ghost use Rattle.mk_run.specs.inner.Turns.{AreLinksOpen, PlanRunsAs};
 
@@ -25,6 +26,7 @@ use crate::outcome::{Outcome, Ran};
 use crate::wholly::run_local;
 use mk_base::List;
 use mk_local::Registry;
+use mk_onlooker::Onlooker;
 use mk_outside::Fleet;
 use mk_plan::Plan;
 use mk_run_crew::{Crew, is_wholly_within};
@@ -34,20 +36,25 @@ use std::alloc::Global;
 use std::sync::Wait;
 
 /// Runs a prepared scenario with its ranks over a fleet. The simulators are started and the handshake is made with
-/// each; then whoever is ready is asked, and one message is heard, and so on until the first outcome. It may wait for
+/// each; then whoever is ready is asked, one message is heard, and so on until the first outcome. It may wait for
 /// others. Simulators within the program are of these kinds. At the end each link that was started is stopped, if its
 /// channel was there, and closed, for which no memory is needed: where the open links have numbers of started ones,
 /// they are those from before.
 ///
 /// The plan and the journal are there wherever the handshake was made and there was memory for the run. Where all
 /// simulators are within the program the fleet isn't used: it is `run_local`.
-pub fn run<F: Fleet, R: Wait>(
+///
+/// The onlooker is shown the whole journal: first what was asked before anything was heard, then batch by batch, each a
+/// message and what was sent because of it. All that is there has been shown whenever the run waits for others, and
+/// before the simulators are stopped.
+pub fn run<F: Fleet, R: Wait, O: Onlooker>(
     rt: &R,
     alloc: Global,
     scenario: Scenario,
     ranks: List<u32>,
     fleet: &mut F,
     kinds: &Registry,
+    onlooker: &mut O,
 ) -> Ran
     requires wellformed { IsWellformed scenario }
     requires ranked { AreRanksOf scenario ranks }
@@ -61,14 +68,16 @@ pub fn run<F: Fleet, R: Wait>(
         (EndsAtStart result.plan entries result.outcome) }
     ensures closed { AreNumbered (F.started fleet.old) (F.open_links fleet.old)
         → F.open_links fleet.new ≡ F.open_links fleet.old }
+    ensures shown { IsShownIn O.looks (not (is_wholly_within scenario)) result.plan result.journal
+        onlooker.old onlooker.new }
     ensures within { is_wholly_within scenario ≡ true → (fleet.new ≡ fleet.old)
         × IsWithinOutcome result.outcome }
 {
     if is_wholly_within(&scenario) {
-        return run_local(alloc, scenario, ranks, kinds);
+        return run_local(alloc, scenario, ranks, kinds, onlooker);
     }
     match Crew::begin(rt, alloc, scenario, ranks, fleet, kinds) {
-        Ok((crew, plan)) => run_plan(rt, alloc, plan, crew, fleet, kinds),
+        Ok((crew, plan)) => run_plan(rt, alloc, plan, crew, fleet, kinds, onlooker),
         Err(halt) => Ran {
             outcome: Outcome::from(halt),
             plan: None,
@@ -78,13 +87,14 @@ pub fn run<F: Fleet, R: Wait>(
 }
 
 // Runs a plan over the crew that the handshake left, and stops it.
-fn run_plan<F: Fleet, R: Wait>(
+fn run_plan<F: Fleet, R: Wait, O: Onlooker>(
     rt: &R,
     alloc: Global,
     plan: Plan,
     crew: Crew,
     fleet: &mut F,
     kinds: &Registry,
+    onlooker: &mut O,
 ) -> Ran
     requires valid { IsValidPlan plan }
     requires unhalted { crew.halt ≡ None }
@@ -96,6 +106,7 @@ fn run_plan<F: Fleet, R: Wait>(
     ensures ran { (entries : List LogEntry) × Adds entries (F.log fleet.old) (F.log fleet.new)
         × PlanRunsAs plan crew entries (F.faults fleet.old)
         (F.faults fleet.new) result.plan result.journal result.outcome }
+    ensures shown { IsShownIn O.looks true result.plan result.journal onlooker.old onlooker.new }
     ensures same_count { F.started fleet.new ≡ F.started fleet.old }
     ensures closed { F.open_links fleet.new
         ≡ without_all (links_in crew.places) (F.open_links fleet.old) }
@@ -104,7 +115,7 @@ fn run_plan<F: Fleet, R: Wait>(
     match Core::new(alloc, plan) {
         Ok(core) => {
             let mut core = core;
-            let outcome = drive(rt, &mut core, &mut crew, fleet, kinds);
+            let outcome = drive(rt, &mut core, &mut crew, fleet, kinds, onlooker);
             crew.stop(fleet);
             let (plan, journal) = core.into_parts();
             Ran {

@@ -12,6 +12,7 @@ use Rattle.mk_outside.specs.Logs.{Adds}
 use Rattle.mk_local.specs.declared.turn.Turn.{Turn}
 use Rattle.mk_sched.specs.Cores.{CoreState}
 use Rattle.mk_sched.specs.Answers.{SomeReady, SomeOpen}
+use Rattle.mk_onlooker.specs.Showings.{AddsBatch, AddsItems}
 use Rattle.mk_run_laws.specs.Handshake.{sim_link}
 use Rattle.mk_run_laws.specs.Crews.{AreStopped, IsRestless}
 use Rattle.mk_run_links.specs.Entries.{AreOn}
@@ -56,10 +57,15 @@ pub record IsStill (old new : CrewSeen) : Type 0 where
   pub places : new.places ≡ old.places
   pub kinds : (rows : List Turn) → AreOf rows (within_of old) → AreOf rows (within_of new)
 
--- the core has its plan still, and no entry less
-pub record IsNoShorter (old new : CoreState) : Type 0 where
+-- the core has its plan still, and its journal has got items alone
+pub record GetsItems (old new : CoreState) : Type 0 where
   pub plan : new.plan ≡ old.plan
-  pub count : length old.entries ≤ length new.entries
+  pub adds : AddsItems old.entries new.entries
+
+-- the core has its plan still, and its journal has got a batch
+pub record GetsBatch (old new : CoreState) : Type 0 where
+  pub plan : new.plan ≡ old.plan
+  pub adds : AddsBatch old.entries new.entries
 
 -- the core has its plan still, and more entries
 pub record IsLonger (old new : CoreState) : Type 0 where

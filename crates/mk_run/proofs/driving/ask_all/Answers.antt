@@ -3,6 +3,7 @@ use Rattle.std.proofs.Common.{sym, ap, ◌∙◌, subst, Result, Err, IfErr}
 use Rattle.std.proofs.lemmas.Result.{err_from_is_err_and}
 use Rattle.mk_local.specs.Registries.{rows_in}
 use Rattle.mk_sched.specs.declared.faults.Next.{Next}
+use Rattle.mk_sched.specs.declared.faults.Next.TheVariants as next
 use Rattle.mk_sched.specs.Cores.{CoreState}
 use Rattle.mk_sched.specs.Answers.{NextOf, IsAsked, AwaitsMessage, IsOver}
 use Rattle.mk_run_crew.specs.Seen.{CrewSeen}
@@ -10,7 +11,7 @@ use Rattle.mk_run.specs.declared.outcome.Outcome.{Outcome}
 use Rattle.mk_run.specs.inner.Turns.{IsLinkedIfLong, IsStopping, AsksAllAs}
 use Rattle.mk_run.proofs.Endings.{done_ends, full_ends, mem_ends}
 use Rattle.mk_run.proofs.Turning.{can_ask, asked_there, asked_on, asked_not, waiting_on, waits_so}
-use Rattle.mk_run.proofs.Growing.{asked_more, unsent_linked}
+use Rattle.mk_run.proofs.Growing.{items_next, items_on, items_out, unsent_linked}
 use Rattle.mk_run.proofs.driving.ask_all.Goals as goal
 
 pub returns-in_err-sim-clause-asked_all : goal.returns-in_err-sim-clause-asked_all
@@ -38,7 +39,7 @@ asking-preserved g c =
     let sent = c.in_ok-send_last-in-Ask.ensures in
     record {
       going = ap (λ (k : CoreState). k.ended) a.moved;
-      grown = asked_more c.args.core.now c.asking.core c.next.new.self c.in-Ask.sim so_far.grown a;
+      items = items_on c.args.core.now c.asking.core c.next.new.self so_far.items (items_next c.asking.core c.next.new.self (next.Ask c.in-Ask.sim) a);
       known = sent.kinds (rows_in c.args.kinds.now) so_far.known;
       still = record { places = sent.same_places ∙ so_far.still.places; kinds = λ rows known. sent.kinds rows (so_far.still.kinds rows known) };
       same_halt = sent.same_halt ∙ so_far.same_halt;
@@ -70,10 +71,22 @@ returns-in-Done-clause-asked_all g c =
 pub returns-in-Fault-clause-asked_all : goal.returns-in-Fault-clause-asked_all
 returns-in-Fault-clause-asked_all g c = λ T log u. full_ends T ⊥ c.asking.core c.next.new.self c.in-Fault.fault log _ _ c.asking.invariant.going (c.asking.invariant.goes T log u) (subst (λ (n : Next). NextOf c.asking.core n c.next.new.self) c.in-Fault.is c.in_ok-sim.ensures.ok)
 
-pub returns-in_err-send_last-in-Ask-clause-grown : goal.returns-in_err-send_last-in-Ask-clause-grown
-returns-in_err-send_last-in-Ask-clause-grown g c =
+pub returns-in_err-send_last-in-Ask-clause-items : goal.returns-in_err-send_last-in-Ask-clause-items
+returns-in_err-send_last-in-Ask-clause-items g c =
     let a : IsAsked c.asking.core c.in-Ask.sim c.next.new.self = subst (λ (n : Next). NextOf c.asking.core n c.next.new.self) c.in-Ask.is c.in_ok-sim.ensures.ok in
-    asked_more c.args.core.now c.asking.core c.next.new.self c.in-Ask.sim c.asking.invariant.grown a
+    items_on c.args.core.now c.asking.core c.next.new.self c.asking.invariant.items (items_next c.asking.core c.next.new.self (next.Ask c.in-Ask.sim) a)
+
+pub returns-in_err-sim-clause-items : goal.returns-in_err-sim-clause-items
+returns-in_err-sim-clause-items g c = items_on c.args.core.now c.asking.core c.next.new.self c.asking.invariant.items (items_out c.asking.core c.next.new.self c.in_err-sim.ensures.err)
+
+pub returns-in-Wait-clause-items : goal.returns-in-Wait-clause-items
+returns-in-Wait-clause-items g c = items_on c.args.core.now c.asking.core c.next.new.self c.asking.invariant.items (items_next c.asking.core c.next.new.self c.in_ok-sim.field-0 c.in_ok-sim.ensures.ok)
+
+pub returns-in-Done-clause-items : goal.returns-in-Done-clause-items
+returns-in-Done-clause-items g c = items_on c.args.core.now c.asking.core c.next.new.self c.asking.invariant.items (items_next c.asking.core c.next.new.self c.in_ok-sim.field-0 c.in_ok-sim.ensures.ok)
+
+pub returns-in-Fault-clause-items : goal.returns-in-Fault-clause-items
+returns-in-Fault-clause-items g c = items_on c.args.core.now c.asking.core c.next.new.self c.asking.invariant.items (items_next c.asking.core c.next.new.self c.in_ok-sim.field-0 c.in_ok-sim.ensures.ok)
 
 pub returns-in_err-send_last-in-Ask-clause-long : goal.returns-in_err-send_last-in-Ask-clause-long
 returns-in_err-send_last-in-Ask-clause-long g c =

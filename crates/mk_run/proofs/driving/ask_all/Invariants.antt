@@ -5,14 +5,14 @@ use Rattle.mk_local.specs.Registries.{rows_in}
 use Rattle.mk_run_local.specs.Seen.{AreOf}
 use Rattle.mk_run_crew.specs.Seen.{within_of}
 use Rattle.mk_run.specs.inner.Underway.{Setting}
-use Rattle.mk_run.specs.inner.Turns.{GoesOn, IsNoShorter, IsStill}
+use Rattle.mk_run.specs.inner.Turns.{GetsItems, GoesOn, IsStill}
 use Rattle.mk_run.proofs.driving.ask_all.Given as goal
 
 -- whoever was asked so far was sent a Step
 abbrev pub invariant-asking : goal.invariant-asking
 invariant-asking g l = record {
   going : l.core.ended ≡ None;
-  grown : IsNoShorter l.fn.core l.core;
+  items : GetsItems l.fn.core l.core;
   known : AreOf (rows_in l.kinds) (within_of l.crew);
   still : IsStill l.fn.crew l.crew;
   same_halt : l.crew.halt ≡ l.fn.crew.halt;

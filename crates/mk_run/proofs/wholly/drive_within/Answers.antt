@@ -1,31 +1,13 @@
 -- Answers to the goals of `wholly::drive_within` that the prover leaves.
 use Rattle.std.proofs.Common.{[]}
-use Rattle.mk_local.specs.Registries.{rows_in}
-use Rattle.mk_run.proofs.Growing.{less_room}
-use Rattle.mk_run.proofs.Linkless.{ends_after, goes_after}
+use Rattle.mk_run.proofs.Turning.{asked_end}
 use Rattle.mk_run.proofs.wholly.drive_within.Goals as goal
 
-pub turns-init : goal.turns-init
-turns-init g c = record { going = c.requires.going; known = c.requires.known; goes = λ T log u. u }
+pub drive_on_within-requires-clause-underway : goal.drive_on_within-requires-clause-underway
+drive_on_within-requires-clause-underway g c = let t = c.requires.underway in (t.0, c.in-Ok.ensures.asked_all.2 t.0 [] t.1, t.2)
 
-pub turn_within-requires-clause-underway : goal.turn_within-requires-clause-underway
-turn_within-requires-clause-underway g c = let t = c.requires.underway in (t.0, c.turns.invariant.goes t.0 [] t.1, t.2)
-
-pub turns-preserved : goal.turns-preserved
-turns-preserved g c =
-    let so_far = c.turns.invariant in
-    let now = c.in-Ok.ensures in
-    record {
-      going = now.turned.0;
-      known = now.still.kinds (rows_in c.args.kinds.now) so_far.known;
-      goes = goes_after c.args.core.now c.turns.core c.turn_within.new.core c.args.crew.now c.turns.crew c.turn_within.new.crew so_far.goes now.turned.1;
-    }
-
-pub turns-smaller : goal.turns-smaller
-turns-smaller g c =
-    let t = c.requires.underway in
-    let now = c.in-Ok.ensures in
-    less_room t.0 c.turns.core c.turn_within.new.core [] c.turn_within.new.crew now.grown (now.turned.1 t.0 [] (c.turns.invariant.goes t.0 [] t.1))
+pub returns-in-Ok-clause-ended : goal.returns-in-Ok-clause-ended
+returns-in-Ok-clause-ended g c T log u = c.drive_on_within.ensures.ended T log (c.in-Ok.ensures.asked_all.2 T log u)
 
 pub returns-in-Err-clause-ended : goal.returns-in-Err-clause-ended
-returns-in-Err-clause-ended g c = ends_after c.args.core.now c.turns.core c.turn_within.new.core c.args.crew.now c.turns.crew c.turn_within.new.crew c.in-Err.outcome c.turns.invariant.goes c.in-Err.ensures.turned
+returns-in-Err-clause-ended g c = asked_end ⊥ c.args.core.now c.begin.new.core c.args.crew.now c.begin.new.crew c.in-Err.outcome c.in-Err.ensures.asked_all

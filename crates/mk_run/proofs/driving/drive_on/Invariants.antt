@@ -1,11 +1,12 @@
--- The invariants and measures of the loops of `driving::drive`.
-use Rattle.std.proofs.Common.{◌≡◌, ◌≤◌, None}
+-- The invariants and measures of the loops of `driving::drive_on`.
+use Rattle.std.proofs.Common.{◌≡◌, ◌≤◌, None, true}
 use Rattle.mk_local.specs.Registries.{rows_in}
 use Rattle.mk_run_local.specs.Seen.{AreOf}
 use Rattle.mk_run_crew.specs.Seen.{within_of}
-use Rattle.mk_run.specs.inner.Turns.{IsStill}
+use Rattle.mk_run.specs.inner.Turns.{IsStill, Waits}
+use Rattle.mk_onlooker.specs.Showings.{IsShownOn}
 use Rattle.mk_run.proofs.Turning.{Gone}
-use Rattle.mk_run.proofs.driving.drive.Given as goal
+use Rattle.mk_run.proofs.driving.drive_on.Given as goal
 
 -- the run went on so far
 abbrev pub invariant-loop : goal.invariant-loop
@@ -17,5 +18,8 @@ invariant-loop g l = record {
   same_count : g.F.Fleet.started l.fleet ≡ g.F.Fleet.started l.fn.fleet;
   same_links : g.F.Fleet.open_links l.fleet ≡ g.F.Fleet.open_links l.fn.fleet;
   still : IsStill l.fn.crew l.crew;
+  waits : Waits l.core;
+  plan : l.core.plan ≡ l.fn.core.plan;
+  shown : IsShownOn g.O.Onlooker.looks l.fn.core.plan true l.fn.core.entries l.core.entries l.fn.onlooker l.onlooker;
   gone : Gone l.fn.core l.core l.fn.crew l.crew (g.F.Fleet.log l.fn.fleet) (g.F.Fleet.log l.fleet);
 }
