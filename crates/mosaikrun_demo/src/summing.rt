@@ -7,6 +7,7 @@ ghost use Rattle.mosaikrun_run.specs.Outcomes.{HoldsOver};
 ghost use Rattle.mosaikrun_demo.specs.Outcomes.{IsDemoOutcome};
 
 use mk_local::Registry;
+use mk_onlooker::Nobody;
 use mk_outside::Fleet;
 use mk_scenario_demo::demo_scenario;
 use mosaikrun_endings::Ending;
@@ -35,5 +36,16 @@ pub fn summed<F: Fleet, R: Wait>(
         fleet.old fleet.new (λ O. IsDemoOutcome O size (Err e))) }
 {
     let scenario = demo_scenario(alloc, size)?;
-    played(rt, alloc, kinds, scenario, fleet, Form::Summary, false).text
+    let mut nobody = Nobody;
+    let told = played(
+        rt,
+        alloc,
+        kinds,
+        scenario,
+        fleet,
+        Form::Summary,
+        false,
+        &mut nobody,
+    );
+    told.text
 }

@@ -6,3 +6,4 @@ pub mod Reporting
 mod StepFrames
 mod Summarizing
 pub mod Telling
+pub mod Showing

@@ -3,3 +3,4 @@ pub mod Laws
 pub mod Outcomes
 pub mod Records
 pub mod Sayings
+pub mod Shown

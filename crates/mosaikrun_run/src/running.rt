@@ -1,5 +1,5 @@
 //! From a scenario, or a file's bytes, to the text and the record of its run.
-ghost use Rattle.std.specs.Prelude.{◌≡◌, ◌≤◌, ◌⊎◌, IfOk, IfErr, IfSome, Some, None, Ok, Err, map, option_map, true};
+ghost use Rattle.std.specs.Prelude.{◌≡◌, ◌≤◌, ◌⊎◌, IfOk, IfErr, IfSome, Some, None, Ok, Err, map, option_map, true, not};
 ghost use Rattle.std.specs.List.{list_all};
 ghost use Rattle.mk_scenario.specs.declared.parts.Scenario.{Scenario};
 ghost use Rattle.mk_scenario.specs.Scenarios.{scenario_of};
@@ -13,6 +13,8 @@ ghost use Rattle.mk_record.specs.Writable.{is_writable};
 ghost use Rattle.mk_run_crew.specs.declared.halt.Halt.{Halt};
 ghost use Rattle.mk_run.specs.Outcomes.{outcome_of};
 ghost use Rattle.mosaikrun_sayings.specs.Sayings.{ids_of};
+ghost use Rattle.mk_scenario_keys.specs.declared.fault.ScenarioFault.{ScenarioFault};
+ghost use Rattle.mosaikrun_run.specs.Shown.{HasShown};
 ghost use Rattle.mosaikrun_run.specs.Sayings.{IsHalt, halt_ending, record_of, saying_of};
 ghost use Rattle.mosaikrun_run.specs.Outcomes.{HoldsOver, IsReadAgain, IsScenarioOutcome, IsRunOutcome, IsSaid};
 ghost use Rattle.mosaikrun_endings.specs.declared.ending.Ending.TheVariants as ends;
@@ -20,6 +22,7 @@ ghost use Rattle.mosaikrun_endings.specs.declared.ending.Ending.TheVariants as e
 use crate::sayings::{Form, halt_ending, saying};
 use mk_base::{List, Mem, Text};
 use mk_local::Registry;
+use mk_onlooker::Onlooker;
 use mk_outside::Fleet;
 use mk_plan::{Journal, Plan};
 use mk_record::write_record;
@@ -81,14 +84,15 @@ impl Told {
 /// Reads a scenario file's bytes, and runs the scenario over a fleet, its simulators within the program being of these
 /// kinds. Answers its report, or why there is none, with its record, where one is wanted and it has a journal. It may
 /// wait for others. Every link that it starts is closed at the end; where all simulators are within the program the
-/// fleet is as before.
-pub fn ran<F: Fleet, R: Wait>(
+/// fleet is as before. The onlooker is shown the journal of the run, if it has one, as `mk_run::run` tells.
+pub fn ran<F: Fleet, R: Wait, O: Onlooker>(
     rt: &R,
     alloc: Global,
     kinds: &Registry,
     bytes: &[u8],
     fleet: &mut F,
     is_recorded: bool,
+    onlooker: &mut O,
 ) -> Told
     ensures count { F.faults fleet.old ≤ F.faults fleet.new }
     ensures closed { AreNumbered (F.started fleet.old) (F.open_links fleet.old)
@@ -101,9 +105,23 @@ pub fn ran<F: Fleet, R: Wait>(
     ensures none { IfErr result.text (λ e. HoldsOver F.log F.started F.faults (rows_in kinds.now)
         fleet.old fleet.new (λ O. IsRunOutcome O is_recorded bytes.now (Err e)
         (option_map (λ r. r.items) result.record_text))) }
+    ensures shown { (S : Scenario) → scenario_of bytes.now ≡ Ok S → HasShown O.looks
+        (not (is_wholly_within S)) (option_map (λ r. r.items) result.record_text) onlooker.old
+        onlooker.new }
+    ensures unread { (f : ScenarioFault) → scenario_of bytes.now ≡ Err f
+        → onlooker.new ≡ onlooker.old }
 {
     match scenario_of(alloc, bytes) {
-        Ok(scenario) => played(rt, alloc, kinds, scenario, fleet, Form::Report, is_recorded),
+        Ok(scenario) => played(
+            rt,
+            alloc,
+            kinds,
+            scenario,
+            fleet,
+            Form::Report,
+            is_recorded,
+            onlooker,
+        ),
         Err(ending) => Told::unrecorded(ending),
     }
 }
@@ -111,7 +129,8 @@ pub fn ran<F: Fleet, R: Wait>(
 /// Runs a scenario over a fleet, its simulators within the program being of these kinds. Answers its text in this
 /// form, or why there is none, with its record, where one is wanted and it has a journal. It may wait for others.
 /// Every link that it starts is closed at the end; where all simulators are within the program the fleet is as before.
-pub fn played<F: Fleet, R: Wait>(
+/// The onlooker is shown the journal of the run, if it has one.
+pub fn played<F: Fleet, R: Wait, O: Onlooker>(
     rt: &R,
     alloc: Global,
     kinds: &Registry,
@@ -119,6 +138,7 @@ pub fn played<F: Fleet, R: Wait>(
     fleet: &mut F,
     form: Form,
     is_recorded: bool,
+    onlooker: &mut O,
 ) -> Told
     requires wellformed { IsWellformed scenario }
     ensures count { F.faults fleet.old ≤ F.faults fleet.new }
@@ -131,6 +151,8 @@ pub fn played<F: Fleet, R: Wait>(
     ensures none { IfErr result.text (λ e. HoldsOver F.log F.started F.faults (rows_in kinds.now)
         fleet.old fleet.new (λ O. IsScenarioOutcome O form is_recorded scenario (Err e)
         (option_map (λ r. r.items) result.record_text))) }
+    ensures shown { HasShown O.looks (not (is_wholly_within scenario))
+        (option_map (λ r. r.items) result.record_text) onlooker.old onlooker.new }
 {
     match accept(alloc, kinds, &scenario) {
         Ok(accepted) => play(
@@ -142,6 +164,7 @@ pub fn played<F: Fleet, R: Wait>(
             fleet,
             form,
             is_recorded,
+            onlooker,
         ),
         Err(ending) => Told::unrecorded(ending),
     }
@@ -171,7 +194,7 @@ pub fn accept(alloc: Global, kinds: &Registry, scenario: &Scenario) -> Result<Ac
 }
 
 // Runs a scenario, and says how it ended.
-fn play<F: Fleet, R: Wait>(
+fn play<F: Fleet, R: Wait, O: Onlooker>(
     rt: &R,
     alloc: Global,
     kinds: &Registry,
@@ -180,6 +203,7 @@ fn play<F: Fleet, R: Wait>(
     fleet: &mut F,
     form: Form,
     is_recorded: bool,
+    onlooker: &mut O,
 ) -> Told
     requires wellformed { IsWellformed scenario }
     requires runnable { IsRunnable (map name_of (rows_in kinds.now)) scenario accepted.ranks }
@@ -194,13 +218,15 @@ fn play<F: Fleet, R: Wait>(
     ensures none { IfErr result.text (λ e. HoldsOver F.log F.started F.faults (rows_in kinds.now)
         fleet.old fleet.new (λ O. IsScenarioOutcome O form is_recorded scenario (Err e)
         (option_map (λ r. r.items) result.record_text))) }
+    ensures shown { HasShown O.looks (not (is_wholly_within scenario))
+        (option_map (λ r. r.items) result.record_text) onlooker.old onlooker.new }
 {
     let Accepted { ranks, ids } = accepted;
     let Ran {
         outcome,
         plan,
         journal,
-    } = run(rt, alloc, scenario, ranks, fleet, kinds);
+    } = run(rt, alloc, scenario, ranks, fleet, kinds, onlooker);
     match (plan, journal) {
         (Some(plan), Some(journal)) => {
             tell(alloc, form, &ids, outcome, &plan, &journal, is_recorded)

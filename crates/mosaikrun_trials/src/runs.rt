@@ -2,6 +2,7 @@
 
 use mk_base::Mem;
 use mk_local::Registry;
+use mk_onlooker::Nobody;
 use mk_outside::Fleet;
 use mosaikrun_run::ran;
 use mosaikrun_samples::{Outcome, outcome_of};
@@ -16,7 +17,16 @@ pub fn told<F: Fleet, R: Wait>(
     scenario: &str,
     fleet: &mut F,
 ) -> Result<Outcome, Mem> {
-    let told = ran(rt, alloc, kinds, scenario.as_bytes(), fleet, true);
+    let mut nobody = Nobody;
+    let told = ran(
+        rt,
+        alloc,
+        kinds,
+        scenario.as_bytes(),
+        fleet,
+        true,
+        &mut nobody,
+    );
     let outcome = outcome_of(alloc, &told);
     drop(told);
     outcome

@@ -7,6 +7,7 @@ ghost use Rattle.mosaikrun_check.specs.Runnable.{IsRunnable};
 
 use mk_base::List;
 use mk_local::Registry;
+use mk_onlooker::Nobody;
 use mk_plan::Journal;
 use mk_run::{Outcome, Ran, run_local};
 use mk_run_crew::{is_wholly_within, within_handshakes_are_faultless};
@@ -46,7 +47,8 @@ fn run_ranked(alloc: Global, kinds: &Registry, scenario: Scenario, ranks: List<u
 {
     if is_wholly_within(&scenario) {
         within_handshakes_are_faultless();
-        Some(run_local(alloc, scenario, ranks, kinds))
+        let mut nobody = Nobody;
+        Some(run_local(alloc, scenario, ranks, kinds, &mut nobody))
     } else {
         None
     }

@@ -1,10 +1,12 @@
 -- Answers to the goals of `running::play` that the prover leaves.
-use Rattle.std.proofs.Common.{None, Ok, Err, refl}
+use Rattle.std.proofs.Common.{◌≡◌, None, Ok, Err, refl}
 use Rattle.std.specs.Prelude.{option_map}
 use Rattle.mk_local.specs.Registries.{rows_in}
+use Rattle.mosaikrun_endings.specs.declared.ending.Ending.TheVariants as ends
 use Rattle.mosaikrun_run.specs.Sayings.{record_of}
 use Rattle.mosaikrun_run.specs.Outcomes.{IsReadAgain, outside}
 use Rattle.mosaikrun_run.proofs.Telling.{has_run, if_err, if_mapped, if_ok, made_with_ending, made_with_text, played, unplayed, writable}
+use Rattle.mosaikrun_run.proofs.Showing.{shown_run, unshown_run}
 use Rattle.mosaikrun_run.proofs.running.play.Goals as goal
 
 pub tell-requires : goal.tell-requires
@@ -56,3 +58,14 @@ returns-in-Some-Some-clause-within g c = λ all. (c.run-outcome.ensures.within a
 
 pub returns-in-None-None-clause-within : goal.returns-in-None-None-clause-within
 returns-in-None-None-clause-within g c = λ all. (c.run-outcome.ensures.within all).0
+
+-- what was shown is what the record says
+
+pub returns-in-Some-Some-clause-shown : goal.returns-in-Some-Some-clause-shown
+returns-in-Some-Some-clause-shown g c =
+    shown_run g.O.Onlooker.looks _ c.run-outcome.result.plan c.run-outcome.result.journal c.args.onlooker.now c.run-outcome.new.onlooker c.run-outcome.ensures.shown c.in-Some-Some.plan c.in-Some-Some.journal c.in-Some-Some.is-0 c.in-Some-Some.is-1
+    (λ v. v.items) c.args.is_recorded c.tell.result.record_text (c.tell.result.text ≡ Err ends.Mem) c.tell.ensures.recorded
+
+pub returns-in-None-None-clause-shown : goal.returns-in-None-None-clause-shown
+returns-in-None-None-clause-shown g c =
+    rw c.unrecorded.ensures.no_record (unshown_run g.O.Onlooker.looks _ c.run-outcome.result.plan c.run-outcome.result.journal c.args.onlooker.now c.run-outcome.new.onlooker c.run-outcome.ensures.shown c.in-None-None.is-0 c.in-None-None.is-1)
