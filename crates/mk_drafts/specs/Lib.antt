@@ -1,0 +1,2 @@
+-- The definitions of mk_drafts, by their files.
+pub mod Begun
