@@ -1,5 +1,5 @@
 //! From the bytes of a scenario's file to the text and the record of its paced run.
-ghost use Rattle.std.specs.Prelude.{◌≡◌, ◌≤◌, List, IfOk, IfErr, IfSome, IsSome, Ok, Err, map, option_map};
+ghost use Rattle.std.specs.Prelude.{◌≡◌, ◌≤◌, List, IfOk, IfErr, IfSome, IsSome, Ok, Err, map, option_map, true};
 ghost use Rattle.mk_outside.specs.declared.fleet.LogEntry.{LogEntry};
 ghost use Rattle.mk_outside.specs.Logs.{Adds};
 ghost use Rattle.mk_launch.specs.Starts.{AreNumbered};
@@ -8,6 +8,7 @@ ghost use Rattle.mk_local.specs.Registries.{rows_in};
 ghost use Rattle.mk_pace_laws.specs.Clocks.{IsRising};
 ghost use Rattle.mk_scenario.specs.Wellformed.{IsWellformed};
 ghost use Rattle.mosaikrun_check.specs.Runnable.{IsRunnable};
+ghost use Rattle.mosaikrun_run.specs.Shown.{HasShown};
 ghost use Rattle.mosaikrun_run.specs.Outcomes.{HoldsOver};
 ghost use Rattle.mosaikrun_sayings.specs.Sayings.{ids_of};
 ghost use Rattle.mosaikrun_paced.specs.Outcomes.{IsPacedOutcome, IsPacedScenario};
@@ -15,6 +16,7 @@ ghost use Rattle.mk_base.specs.Limits.{most_milliseconds};
 
 use crate::sayings::{saying_at, unpaced};
 use mk_local::Registry;
+use mk_onlooker::Onlooker;
 use mk_outside::Paced;
 use mk_pace::{PaceRan, paced};
 use mk_scenario::Scenario;
@@ -28,7 +30,7 @@ use std::sync::Wait;
 /// than `strict` milliseconds late, at most 86,400,000, where that is given. Answers its report, or why there is none,
 /// with its record, where one is wanted and it has a journal. It may wait for others. Every link that it starts is
 /// closed at the end.
-pub fn paced_ran<F: Paced, R: Wait>(
+pub fn paced_ran<F: Paced, R: Wait, O: Onlooker>(
     rt: &R,
     alloc: Global,
     kinds: &Registry,
@@ -37,6 +39,7 @@ pub fn paced_ran<F: Paced, R: Wait>(
     factor: u64,
     strict: Option<u64>,
     is_recorded: bool,
+    onlooker: &mut O,
 ) -> Told
     requires least { 1 ≤ factor }
     requires most { factor ≤ most_milliseconds }
@@ -52,6 +55,8 @@ pub fn paced_ran<F: Paced, R: Wait>(
     ensures none { IfErr result.text (λ e. HoldsOver F.log F.started F.faults (rows_in kinds.now)
         fleet.old fleet.new (λ O. IsPacedOutcome O factor strict is_recorded bytes.now (Err e)
         (option_map (λ r. r.items) result.record_text))) }
+    ensures shown { HasShown O.looks true (option_map (λ r. r.items) result.record_text)
+        onlooker.old onlooker.new }
 {
     match scenario_of(alloc, bytes) {
         Ok(scenario) => {
@@ -64,6 +69,7 @@ pub fn paced_ran<F: Paced, R: Wait>(
                 factor,
                 strict,
                 is_recorded,
+                onlooker,
             )
         }
         Err(ending) => Told::unrecorded(ending),
@@ -71,7 +77,7 @@ pub fn paced_ran<F: Paced, R: Wait>(
 }
 
 // Runs a scenario, if it can be run.
-fn play<F: Paced, R: Wait>(
+fn play<F: Paced, R: Wait, O: Onlooker>(
     rt: &R,
     alloc: Global,
     kinds: &Registry,
@@ -80,6 +86,7 @@ fn play<F: Paced, R: Wait>(
     factor: u64,
     strict: Option<u64>,
     is_recorded: bool,
+    onlooker: &mut O,
 ) -> Told
     requires wellformed { IsWellformed scenario }
     requires least { 1 ≤ factor }
@@ -96,6 +103,8 @@ fn play<F: Paced, R: Wait>(
     ensures none { IfErr result.text (λ e. HoldsOver F.log F.started F.faults (rows_in kinds.now)
         fleet.old fleet.new (λ O. IsPacedScenario O factor strict is_recorded scenario (Err e)
         (option_map (λ r. r.items) result.record_text))) }
+    ensures shown { HasShown O.looks true (option_map (λ r. r.items) result.record_text)
+        onlooker.old onlooker.new }
 {
     match accept(alloc, kinds, &scenario) {
         Ok(accepted) => pace(
@@ -108,13 +117,14 @@ fn play<F: Paced, R: Wait>(
             factor,
             strict,
             is_recorded,
+            onlooker,
         ),
         Err(ending) => Told::unrecorded(ending),
     }
 }
 
 // Runs a scenario by the clock, and says how it ended.
-fn pace<F: Paced, R: Wait>(
+fn pace<F: Paced, R: Wait, O: Onlooker>(
     rt: &R,
     alloc: Global,
     kinds: &Registry,
@@ -124,6 +134,7 @@ fn pace<F: Paced, R: Wait>(
     factor: u64,
     strict: Option<u64>,
     is_recorded: bool,
+    onlooker: &mut O,
 ) -> Told
     requires wellformed { IsWellformed scenario }
     requires runnable { IsRunnable (map name_of (rows_in kinds.now)) scenario accepted.ranks }
@@ -142,6 +153,8 @@ fn pace<F: Paced, R: Wait>(
     ensures none { IfErr result.text (λ e. HoldsOver F.log F.started F.faults (rows_in kinds.now)
         fleet.old fleet.new (λ O. IsPacedScenario O factor strict is_recorded scenario (Err e)
         (option_map (λ r. r.items) result.record_text))) }
+    ensures shown { HasShown O.looks true (option_map (λ r. r.items) result.record_text)
+        onlooker.old onlooker.new }
 {
     let Accepted { ranks, ids } = accepted;
     let PaceRan {
@@ -149,7 +162,9 @@ fn pace<F: Paced, R: Wait>(
         plan,
         journal,
         moments: _,
-    } = paced(rt, alloc, scenario, ranks, fleet, kinds, factor, strict);
+    } = paced(
+        rt, alloc, scenario, ranks, fleet, kinds, factor, strict, onlooker,
+    );
     match (plan, journal) {
         (Some(plan), Some(journal)) => {
             let text = saying_at(alloc, &ids, end, &plan, &journal);

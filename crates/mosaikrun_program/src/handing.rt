@@ -5,17 +5,22 @@ ghost use Rattle.mosaikrun_program.specs.Answers.{PrintAnswer};
 ghost use Rattle.mosaikrun_program.specs.Around.{IsSaidAs, folder_seen, output_seen};
 ghost use Rattle.mosaikrun_program.specs.Running.{IsFolderAfter, IsUnsaved, RunAnswer};
 
+use crate::drafting::{end, save};
 use mk_base::Text;
-use mk_outside::{FileSave, Folder, PutAll, Sink, put_all};
+use mk_drafts::Drafts;
+use mk_outside::{FileSave, PutAll, Sink, put_all};
+use mk_scribe::Scribe;
 use mosaikrun_endings::Ending;
 use mosaikrun_run::Told;
 
 // Saves the record of what was done over a fleet, if there is one, under the name, if one is given, and prints the
-// text; or says why there is none, or why it isn't printed.
-pub fn hand_out<D: Folder, K: Sink>(
+// text; or says why there is none, or why it isn't printed. The draft is ended first; once the record is saved, or where
+// nothing is in the draft, it is taken away.
+pub fn hand_out<D: Drafts, K: Sink>(
     told: Told,
     name: &Option<Text>,
     folder: &mut D,
+    scribe: Scribe<D::Draft>,
     out: &mut K,
 ) -> Result<(), Ending>
     ensures text { IfOk told.text
@@ -30,18 +35,20 @@ pub fn hand_out<D: Folder, K: Sink>(
     ensures out_count { K.faults out.old ≤ K.faults out.new }
 {
     let Told { text, record_text } = told;
+    let draft = end(folder, scribe);
     match text {
-        Ok(text) => report(text.as_slice(), &record_text, name, folder, out),
-        Err(ending) => Err(explained(ending, &record_text, name, folder)),
+        Ok(text) => report(text.as_slice(), &record_text, name, folder, draft, out),
+        Err(ending) => Err(explained(ending, &record_text, name, folder, draft)),
     }
 }
 
 // Saves the record and prints the text; where the record isn't saved it says so, and prints nothing.
-fn report<D: Folder, K: Sink>(
+fn report<D: Drafts, K: Sink>(
     text: &[u8],
     kept: &Option<Vec<u8>>,
     name: &Option<Text>,
     folder: &mut D,
+    draft: Option<D::Draft>,
     out: &mut K,
 ) -> Result<(), Ending>
     ensures answered { RunAnswer (folder_seen D.files D.faults folder.old folder.new)
@@ -50,7 +57,7 @@ fn report<D: Folder, K: Sink>(
     ensures folder_count { D.faults folder.old ≤ D.faults folder.new }
     ensures out_count { K.faults out.old ≤ K.faults out.new }
 {
-    match keep(folder, name, kept) {
+    match keep(folder, name, kept, draft) {
         FileSave::Kept => print(out, text),
         FileSave::Failed => Err(Ending::Folder),
         FileSave::Mem => Err(Ending::Mem),
@@ -59,11 +66,12 @@ fn report<D: Folder, K: Sink>(
 
 // Saves the record where there is no text, and says why there is none, or that memory was wanting for saving it. That
 // the folder failed isn't said.
-fn explained<D: Folder>(
+fn explained<D: Drafts>(
     ending: Ending,
     made: &Option<Vec<u8>>,
     name: &Option<Text>,
     folder: &mut D,
+    draft: Option<D::Draft>,
 ) -> Ending
     ensures said { IsSaidAs ending result }
     ensures saved { IsFolderAfter name.now (option_map (λ r. r.items) made.now)
@@ -71,7 +79,7 @@ fn explained<D: Folder>(
         ⊎ IsUnsaved (folder_seen D.files D.faults folder.old folder.new) name.now result }
     ensures count { D.faults folder.old ≤ D.faults folder.new }
 {
-    match keep(folder, name, made) {
+    match keep(folder, name, made, draft) {
         FileSave::Kept | FileSave::Failed => ending,
         FileSave::Mem => {
             drop(ending);
@@ -81,7 +89,12 @@ fn explained<D: Folder>(
 }
 
 // Saves the record of a run, if there is one, under the name, if one is given.
-fn keep<D: Folder>(folder: &mut D, name: &Option<Text>, bytes: &Option<Vec<u8>>) -> FileSave
+fn keep<D: Drafts>(
+    folder: &mut D,
+    name: &Option<Text>,
+    bytes: &Option<Vec<u8>>,
+    draft: Option<D::Draft>,
+) -> FileSave
     ensures kept { result ≡ FileSave.Kept
         → IsFolderAfter name.now (option_map (λ b. b.items) bytes.now) (D.files folder.old)
         (D.files folder.new) }
@@ -92,7 +105,7 @@ fn keep<D: Folder>(folder: &mut D, name: &Option<Text>, bytes: &Option<Vec<u8>>)
     ensures count { D.faults folder.old ≤ D.faults folder.new }
 {
     match (name, bytes) {
-        (Some(name), Some(bytes)) => folder.save(name.as_str(), bytes.as_slice()),
+        (Some(name), Some(bytes)) => save(folder, name.as_str(), bytes.as_slice(), draft),
         _ => FileSave::Kept,
     }
 }

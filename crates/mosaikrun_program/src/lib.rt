@@ -2,6 +2,7 @@
 #![tactic(auto)]
 
 mod commands;
+mod drafting;
 mod handing;
 mod top;
 

@@ -28,8 +28,10 @@ ghost use Rattle.mosaikrun_program.specs.Program.{EndedAs, EndsWith, IsStatusOr,
 ghost use Rattle.mk_base.specs.Limits.{largest_demo, most_milliseconds};
 
 use crate::commands::{file_bytes, made, record_bytes, target_of};
+use crate::drafting::scribe_for;
 use crate::handing::{hand_out, print};
 use mk_base::Text;
+use mk_drafts::Drafts;
 use mk_local::Registry;
 use mk_outside::{FileSave, Fleet, Folder, Paced, PutAll, Sink, put_all};
 use mk_run_crew::handshakes_complete;
@@ -61,7 +63,7 @@ use std::sync::Wait;
 ///
 /// At a status other than 0 `err` gets a line that says why, or a beginning of it where it failed or found no memory,
 /// and `out` gets nothing, or a beginning of the text where it failed or found no memory.
-pub fn program<D: Folder, F: Paced, K: Sink, E: Sink, R: Wait>(
+pub fn program<D: Drafts, F: Paced, K: Sink, E: Sink, R: Wait>(
     rt: &R,
     alloc: Global,
     words: &[String],
@@ -135,7 +137,7 @@ pub fn program<D: Folder, F: Paced, K: Sink, E: Sink, R: Wait>(
 }
 
 // Reads the words, and does what they ask.
-fn answer<D: Folder, F: Paced, K: Sink, R: Wait>(
+fn answer<D: Drafts, F: Paced, K: Sink, R: Wait>(
     rt: &R,
     alloc: Global,
     words: &[String],
@@ -267,7 +269,7 @@ fn asked(alloc: Global, words: &[String]) -> Result<Request, Ending>
 
 // Reads a scenario's file and runs it over the fleet; the record is saved under the name, if there is one, and the
 // report is printed.
-fn play<D: Folder, F: Fleet, K: Sink, R: Wait>(
+fn play<D: Drafts, F: Fleet, K: Sink, R: Wait>(
     rt: &R,
     alloc: Global,
     scenario: &str,
@@ -290,13 +292,22 @@ fn play<D: Folder, F: Fleet, K: Sink, R: Wait>(
     ensures out_count { K.faults out.old ≤ K.faults out.new }
 {
     let bytes = file_bytes(alloc, folder, scenario)?;
-    let told = ran(rt, alloc, kinds, bytes.as_slice(), fleet, name.is_some());
-    hand_out(told, name, folder, out)
+    let mut scribe = scribe_for(alloc, folder, name);
+    let told = ran(
+        rt,
+        alloc,
+        kinds,
+        bytes.as_slice(),
+        fleet,
+        name.is_some(),
+        &mut scribe,
+    );
+    hand_out(told, name, folder, scribe, out)
 }
 
 // Reads a scenario's file and then, where it can be run, that of a record, which is mended, and goes on with the run over
 // the fleet; the new record is saved under the name, if there is one, and the report is printed.
-fn carry_on<D: Folder, F: Fleet, K: Sink, R: Wait>(
+fn carry_on<D: Drafts, F: Fleet, K: Sink, R: Wait>(
     rt: &R,
     alloc: Global,
     scenario: &str,
@@ -322,6 +333,7 @@ fn carry_on<D: Folder, F: Fleet, K: Sink, R: Wait>(
     let bytes = file_bytes(alloc, folder, scenario)?;
     let study = study_of(alloc, kinds, bytes.as_slice())?;
     let old = record_bytes(alloc, folder, recorded)?;
+    let mut scribe = scribe_for(alloc, folder, name);
     let told = resumed(
         rt,
         alloc,
@@ -330,13 +342,14 @@ fn carry_on<D: Folder, F: Fleet, K: Sink, R: Wait>(
         old.as_slice(),
         fleet,
         name.is_some(),
+        &mut scribe,
     );
-    hand_out(told, name, folder, out)
+    hand_out(told, name, folder, scribe, out)
 }
 
 // Reads a scenario's file and runs it over the fleet by its clock, with so many milliseconds to a unit of time; the
 // record is saved under the name, if there is one, and the report is printed.
-fn pace<D: Folder, F: Paced, K: Sink, R: Wait>(
+fn pace<D: Drafts, F: Paced, K: Sink, R: Wait>(
     rt: &R,
     alloc: Global,
     scenario: &str,
@@ -365,6 +378,7 @@ fn pace<D: Folder, F: Paced, K: Sink, R: Wait>(
     ensures out_count { K.faults out.old ≤ K.faults out.new }
 {
     let bytes = file_bytes(alloc, folder, scenario)?;
+    let mut scribe = scribe_for(alloc, folder, name);
     let told = paced_ran(
         rt,
         alloc,
@@ -374,8 +388,9 @@ fn pace<D: Folder, F: Paced, K: Sink, R: Wait>(
         factor as u64,
         wide(strict),
         name.is_some(),
+        &mut scribe,
     );
-    hand_out(told, name, folder, out)
+    hand_out(told, name, folder, scribe, out)
 }
 
 // A number of milliseconds as wide as those of a clock.

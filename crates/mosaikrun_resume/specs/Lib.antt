@@ -2,4 +2,5 @@
 pub mod Laws
 pub mod Outcomes
 pub mod Sayings
+pub mod Shown
 pub mod inner

@@ -18,10 +18,12 @@ ghost use Rattle.mosaikrun_run.specs.Sayings.{record_of};
 ghost use Rattle.mosaikrun_sayings.specs.Sayings.{ids_of};
 ghost use Rattle.mosaikrun_resume.specs.Outcomes.{IsStudyOutcome, IsSavedOutcome};
 ghost use Rattle.mosaikrun_resume.specs.Sayings.{resume_saying};
+ghost use Rattle.mosaikrun_resume.specs.Shown.{HasShownOnward};
 
 use crate::sayings::{refusal, saying_at};
 use mk_base::{List, Text};
 use mk_local::Registry;
+use mk_onlooker::Onlooker;
 use mk_outside::Fleet;
 use mk_plan::{Journal, Plan};
 use mk_record::Saved;
@@ -77,8 +79,9 @@ fn with_ranks(scenario: Scenario, accepted: Accepted) -> Study
 /// Goes on with a run of the study from the record of these bytes, over a fleet, its simulators within the program
 /// being of these kinds. Answers its report, or why there is none, the bytes being no record among that, with the
 /// record of the whole run, where one is wanted and the old one was taken. It may wait for others. Every link that it
-/// starts is closed at the end; where all simulators are within the program the fleet is as before.
-pub fn resumed<F: Fleet, R: Wait>(
+/// starts is closed at the end; where all simulators are within the program the fleet is as before. The onlooker is shown
+/// the journal of the whole run, once the old record was taken.
+pub fn resumed<F: Fleet, R: Wait, O: Onlooker>(
     rt: &R,
     alloc: Global,
     kinds: &Registry,
@@ -86,6 +89,7 @@ pub fn resumed<F: Fleet, R: Wait>(
     bytes: &[u8],
     fleet: &mut F,
     is_recorded: bool,
+    onlooker: &mut O,
 ) -> Told
     requires wellformed { IsWellformed study.scenario }
     requires runnable { IsRunnable (map name_of (rows_in kinds.now)) study.scenario study.ranks }
@@ -100,15 +104,26 @@ pub fn resumed<F: Fleet, R: Wait>(
     ensures none { IfErr result.text (λ e. HoldsOver F.log F.started F.faults (rows_in kinds.now)
         fleet.old fleet.new (λ O. IsStudyOutcome O is_recorded study.scenario study.ranks bytes.now
         (Err e) (option_map (λ r. r.items) result.record_text))) }
+    ensures shown { HasShownOnward O.looks (option_map (λ r. r.items) result.record_text)
+        onlooker.old onlooker.new }
 {
     match saved_of(alloc, bytes) {
-        Ok(saved) => go_on(rt, alloc, kinds, study, saved, fleet, is_recorded),
+        Ok(saved) => go_on(
+            rt,
+            alloc,
+            kinds,
+            study,
+            saved,
+            fleet,
+            is_recorded,
+            onlooker,
+        ),
         Err(ending) => Told::unrecorded(ending),
     }
 }
 
 // Goes on with a run of the study from a record, and says how it ended.
-fn go_on<F: Fleet, R: Wait>(
+fn go_on<F: Fleet, R: Wait, O: Onlooker>(
     rt: &R,
     alloc: Global,
     kinds: &Registry,
@@ -116,6 +131,7 @@ fn go_on<F: Fleet, R: Wait>(
     saved: Saved,
     fleet: &mut F,
     is_recorded: bool,
+    onlooker: &mut O,
 ) -> Told
     requires wellformed { IsWellformed study.scenario }
     requires runnable { IsRunnable (map name_of (rows_in kinds.now)) study.scenario study.ranks }
@@ -131,6 +147,8 @@ fn go_on<F: Fleet, R: Wait>(
     ensures none { IfErr result.text (λ e. HoldsOver F.log F.started F.faults (rows_in kinds.now)
         fleet.old fleet.new (λ O. IsSavedOutcome O is_recorded study.scenario study.ranks saved
         (Err e) (option_map (λ r. r.items) result.record_text))) }
+    ensures shown { HasShownOnward O.looks (option_map (λ r. r.items) result.record_text)
+        onlooker.old onlooker.new }
 {
     let Study {
         scenario,
@@ -142,7 +160,7 @@ fn go_on<F: Fleet, R: Wait>(
         taken,
         plan,
         journal,
-    } = resume(rt, alloc, scenario, ranks, saved, fleet, kinds);
+    } = resume(rt, alloc, scenario, ranks, saved, fleet, kinds, onlooker);
     match (plan, journal) {
         (Some(plan), Some(journal)) => {
             tell(alloc, &ids, end, &plan, &journal, taken, is_recorded)

@@ -1,5 +1,5 @@
 -- Answers to the goals of `pacing::pace` that the prover leaves.
-use Rattle.std.proofs.Common.{None, Ok, Err, refl}
+use Rattle.std.proofs.Common.{◌≡◌, None, Ok, Err, refl, true}
 use Rattle.std.specs.Prelude.{option_map}
 use Rattle.mk_local.specs.Registries.{rows_in}
 use Rattle.mosaikrun_run.specs.Sayings.{record_of}
@@ -7,6 +7,8 @@ use Rattle.mosaikrun_run.specs.Outcomes.{IsReadAgain, outside}
 use Rattle.mosaikrun_run.proofs.Telling.{if_err, if_mapped, if_ok, made_with_ending, made_with_text, said_ending, said_text}
 use Rattle.mosaikrun_paced.specs.Sayings.{pace_saying}
 use Rattle.mosaikrun_paced.proofs.Telling.{is_halt, may_be_written, paced, unpaced}
+use Rattle.mosaikrun_endings.specs.declared.ending.Ending.TheVariants as ends
+use Rattle.mosaikrun_run.proofs.Showing.{shown_run, unshown_run}
 use Rattle.mosaikrun_paced.proofs.pacing.pace.Goals as goal
 
 pub recorded-requires : goal.recorded-requires
@@ -70,3 +72,16 @@ returns-in-Some-Some-clause-rising g c = let r = c.paced-end.ensures.ran in (r.0
 
 pub returns-in-None-None-clause-rising : goal.returns-in-None-None-clause-rising
 returns-in-None-None-clause-rising g c = let r = c.paced-end.ensures.ran in (r.0, r.1, r.2)
+
+-- what was shown is what the record says
+
+pub returns-in-Some-Some-clause-shown : goal.returns-in-Some-Some-clause-shown
+returns-in-Some-Some-clause-shown g c =
+    let h = c.paced-end.result in
+    shown_run g.O.Onlooker.looks true h.plan h.journal c.args.onlooker.now c.paced-end.new.onlooker c.paced-end.ensures.shown c.in-Some-Some.plan c.in-Some-Some.journal c.in-Some-Some.is-0 c.in-Some-Some.is-1 (λ v. v.items) c.args.is_recorded c.recorded.result.record_text
+    (c.recorded.result.text ≡ Err ends.Mem) c.recorded.ensures.recorded
+
+pub returns-in-None-None-clause-shown : goal.returns-in-None-None-clause-shown
+returns-in-None-None-clause-shown g c =
+    let h = c.paced-end.result in
+    rw c.unrecorded.ensures.no_record (unshown_run g.O.Onlooker.looks true h.plan h.journal c.args.onlooker.now c.paced-end.new.onlooker c.paced-end.ensures.shown c.in-None-None.is-0 c.in-None-None.is-1)

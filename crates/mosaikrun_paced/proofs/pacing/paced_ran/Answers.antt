@@ -1,5 +1,5 @@
 -- Answers to the goals of `pacing::paced_ran` that the prover leaves.
-use Rattle.std.proofs.Common.{[], Ok, Err, refl, option_map}
+use Rattle.std.proofs.Common.{[], inl, Ok, Err, refl, option_map}
 use Rattle.mk_local.specs.Registries.{rows_in}
 use Rattle.mk_outside.proofs.OnLogs.{adds_none}
 use Rattle.mosaikrun_run.specs.Outcomes.{outside}
@@ -28,3 +28,6 @@ returns-in-Err-clause-none g c =
 
 pub returns-in-Err-clause-rising : goal.returns-in-Err-clause-rising
 returns-in-Err-clause-rising g c = ([], adds_none _, λ told. rising_none)
+
+pub returns-in-Err-clause-shown : goal.returns-in-Err-clause-shown
+returns-in-Err-clause-shown g c = rw c.unrecorded.ensures.no_record (inl (refl, refl))

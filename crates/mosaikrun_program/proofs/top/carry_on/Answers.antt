@@ -97,7 +97,7 @@ pub returns-clause-carried : goal.returns-clause-carried
 returns-clause-carried g c = λ words rules asked.
     let kept = option_map (λ r. r.items) c.resumed-told.result.record_text in
     let name = c.args.name.now in
-    let mid = folder_seen g.D.Folder.files g.D.Folder.faults c.record_bytes.new.folder c.hand_out.new.folder in
+    let mid = folder_seen g.D.Folder.files g.D.Folder.faults c.scribe_for-scribe.new.folder c.hand_out.new.folder in
     let out = output_seen g.K.Sink.written g.K.Sink.faults g.K.Sink.shortages c.args.out.now c.hand_out.new.out in
     let scenario = c.in_ok-study.study.scenario in
     let ranks = c.in_ok-study.study.ranks in
@@ -129,7 +129,7 @@ returns-clause-carried g c = λ words rules asked.
       came.0,
       came.1,
       gone_on S c.args.scenario.now c.args.recorded.now name asked c.hand_out.result bytes old c.in_ok-bytes.ensures.read too study text kept outcome
-          (answered_since S.folder mid.files mid.faults (c.record_bytes.ensures.kept ∙ c.file_bytes.ensures.kept) (low c.file_bytes.ensures.count c.record_bytes.ensures.count) out name text kept c.hand_out.result told.2),
+          (answered_since S.folder mid.files mid.faults (c.scribe_for-scribe.ensures.kept ∙ (c.record_bytes.ensures.kept ∙ c.file_bytes.ensures.kept)) (low (low c.file_bytes.ensures.count c.record_bytes.ensures.count) c.scribe_for-scribe.ensures.count) out name text kept c.hand_out.result told.2),
     )
 
 -- nothing is done with the fleet where no simulator has a link

@@ -13,6 +13,7 @@ use Rattle.mosaikrun_paced.specs.Outcomes.{IsPacedOutcome}
 use Rattle.mosaikrun_program.specs.Around.{Around, folder_seen, output_seen}
 use Rattle.mosaikrun_program.specs.Running.{RunAnswer}
 use Rattle.mosaikrun_program.specs.Program.{EndedAs}
+use Rattle.mosaikrun_program.proofs.CarryingOn.{low}
 use Rattle.mosaikrun_program.proofs.Playing.{answered_since, either, is_paced, performed}
 use Rattle.mosaikrun_paced.proofs.Telling.{rising_none}
 use Rattle.mosaikrun_program.proofs.top.pace.Goals as goal
@@ -44,7 +45,7 @@ pub returns-clause-paced : goal.returns-clause-paced
 returns-clause-paced g c = λ words rules asked.
     let kept = option_map (λ r. r.items) c.paced_ran-told.result.record_text in
     let name = c.args.name.now in
-    let mid = folder_seen g.D.Folder.files g.D.Folder.faults c.file_bytes.new.folder c.hand_out.new.folder in
+    let mid = folder_seen g.D.Folder.files g.D.Folder.faults c.scribe_for-scribe.new.folder c.hand_out.new.folder in
     let out = output_seen g.K.Sink.written g.K.Sink.faults g.K.Sink.shortages c.args.out.now c.hand_out.new.out in
     let Q : Result (List ℕ) Ending → Type 0 = λ text. (entries : List LogEntry) × Adds entries (g.F.Fleet.log c.args.fleet.now) (g.F.Fleet.log c.paced_ran-told.new.fleet)
     × IsPacedOutcome (outside g.F.Fleet.started g.F.Fleet.faults (rows_in c.args.kinds.now) c.args.fleet.now c.paced_ran-told.new.fleet entries)
@@ -74,7 +75,7 @@ returns-clause-paced g c = λ words rules asked.
           text = text;
           kept = kept;
           outcome = outcome;
-          ended = answered_since S.folder mid.files mid.faults c.file_bytes.ensures.kept c.file_bytes.ensures.count out name text kept c.hand_out.result told.2;
+          ended = answered_since S.folder mid.files mid.faults (c.scribe_for-scribe.ensures.kept ∙ c.file_bytes.ensures.kept) (low c.file_bytes.ensures.count c.scribe_for-scribe.ensures.count) out name text kept c.hand_out.result told.2;
         });
       })),
     )

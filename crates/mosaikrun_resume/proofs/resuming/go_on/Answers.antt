@@ -1,11 +1,13 @@
 -- Answers to the goals of `resuming::go_on` that the prover leaves.
-use Rattle.std.proofs.Common.{None, Ok, Err, refl, ap}
+use Rattle.std.proofs.Common.{◌≡◌, None, Ok, Err, refl, ap}
 use Rattle.std.specs.Prelude.{option_map}
 use Rattle.mk_local.specs.Registries.{rows_in}
 use Rattle.mosaikrun_run.specs.Sayings.{record_of}
 use Rattle.mosaikrun_run.specs.Outcomes.{IsReadAgain, outside}
 use Rattle.mosaikrun_run.proofs.Telling.{if_err, if_mapped, if_ok, made_with_ending, made_with_text}
 use Rattle.mosaikrun_resume.proofs.Telling.{is_refusal, may_be_written, refused, some}
+use Rattle.mosaikrun_endings.specs.declared.ending.Ending.TheVariants as ends
+use Rattle.mosaikrun_resume.proofs.Showing.{shown_onward, unshown_onward}
 use Rattle.mosaikrun_resume.proofs.resuming.go_on.Goals as goal
 
 pub tell-requires : goal.tell-requires
@@ -63,3 +65,16 @@ returns-in-None-None-clause-none g c =
     let h = c.resume-end.result in
     rw (c.unrecorded.ensures.text, c.unrecorded.ensures.no_record)
     (r.0, r.1, refused O c.args.study.scenario c.args.study.ranks c.args.saved h.end h.taken h.plan h.journal r.2 c.args.is_recorded c.requires.runnable c.args.study.ids c.requires.ids (Err c.refusal.result) None c.in-None-None.is-0 c.in-None-None.is-1 c.refusal.ensures.halted c.refusal.ensures.refused refl)
+
+-- what was shown is what the new record says
+
+pub returns-in-Some-Some-clause-shown : goal.returns-in-Some-Some-clause-shown
+returns-in-Some-Some-clause-shown g c =
+    let h = c.resume-end.result in
+    shown_onward g.O.Onlooker.looks c.args.saved h.plan h.journal c.args.onlooker.now c.resume-end.new.onlooker h.taken c.resume-end.ensures.shown c.in-Some-Some.plan c.in-Some-Some.journal c.in-Some-Some.is-0 c.in-Some-Some.is-1 (λ v. v.items) c.args.is_recorded
+    c.tell.result.record_text (c.tell.result.text ≡ Err ends.Mem) c.tell.ensures.recorded c.tell.ensures.unrecorded
+
+pub returns-in-None-None-clause-shown : goal.returns-in-None-None-clause-shown
+returns-in-None-None-clause-shown g c =
+    let h = c.resume-end.result in
+    rw c.unrecorded.ensures.no_record (unshown_onward g.O.Onlooker.looks c.args.saved h.plan h.journal c.args.onlooker.now c.resume-end.new.onlooker h.taken c.resume-end.ensures.shown c.in-None-None.is-0)

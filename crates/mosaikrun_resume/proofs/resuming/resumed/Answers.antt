@@ -1,5 +1,5 @@
 -- Answers to the goals of `resuming::resumed` that the prover leaves.
-use Rattle.std.proofs.Common.{[], Ok, Err, refl, option_map}
+use Rattle.std.proofs.Common.{[], inl, Ok, Err, refl, option_map}
 use Rattle.mk_local.specs.Registries.{rows_in}
 use Rattle.mk_outside.proofs.OnLogs.{adds_none}
 use Rattle.mosaikrun_run.specs.Outcomes.{outside}
@@ -25,3 +25,6 @@ pub returns-in-Err-clause-none : goal.returns-in-Err-clause-none
 returns-in-Err-clause-none g c =
     let O = outside g.F.Fleet.started g.F.Fleet.faults (rows_in c.args.kinds.now) c.args.fleet.now c.args.fleet.now [] in
     rw (c.unrecorded.ensures.text, c.unrecorded.ensures.no_record) ([], adds_none _, no_record O c.args.is_recorded c.args.study.scenario c.args.study.ranks c.args.bytes.now c.in-Err.ending _ _ refl refl refl refl c.in-Err.ensures.unread)
+
+pub returns-in-Err-clause-shown : goal.returns-in-Err-clause-shown
+returns-in-Err-clause-shown g c = rw c.unrecorded.ensures.no_record (inl (refl, refl))
