@@ -6,4 +6,6 @@ mod fields;
 mod parts;
 mod record;
 
+pub use entries::{line_count, put_entries};
+pub use parts::put_plan;
 pub use record::write_record;
