@@ -3,7 +3,7 @@ ghost use Rattle.std.specs.Prelude.{◌≡◌, Some, true};
 ghost use Rattle.std.specs.List.{list_all};
 ghost use Rattle.mk_onlooker.specs.Showings.{AreInRange};
 ghost use Rattle.mk_record_write.specs.Writable.{is_writable};
-ghost use Rattle.mk_scribe.specs.Desks.{Closes, IsNew, Notes, desk_of, looks_of};
+ghost use Rattle.mk_scribe.specs.Desks.{Closes, IsNew, Notes, desk_of, is_begun, looks_of};
 ghost use Rattle.mk_scribe.specs.Drafts.{draft_of};
 
 use crate::handing::{hand_over, put_end};
@@ -37,6 +37,16 @@ impl<S: Sink> Scribe<S> {
         Scribe {
             draft,
             sheet: Sheet::new(alloc),
+        }
+    }
+
+    /// Whether lines of a record were made. Without a draft none are.
+    pub fn is_begun(&self) -> bool
+        ensures { result ≡ is_begun self.now.sheet.writing }
+    {
+        match self.sheet.writing {
+            Writing::Unbegun => false,
+            Writing::Begun | Writing::Lost => true,
         }
     }
 

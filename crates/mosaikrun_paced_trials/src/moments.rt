@@ -9,6 +9,7 @@ use crate::pacing::{Clock, FACTOR, ticking};
 use mk_base::{Mem, SimNo, Tier};
 use mk_fakes::MemFleet;
 use mk_local::Registry;
+use mk_onlooker::Nobody;
 use mk_pace::{Moment, PaceRan, paced};
 use mosaikrun_resume::{Study, study_of};
 use mosaikrun_samples::{COUNTER, TALK, replies_of};
@@ -63,7 +64,18 @@ fn ran<R: Wait>(
         ids,
     } = study;
     drop(ids);
-    paced(rt, alloc, scenario, ranks, fleet, kinds, FACTOR, Some(0))
+    let mut nobody = Nobody;
+    paced(
+        rt,
+        alloc,
+        scenario,
+        ranks,
+        fleet,
+        kinds,
+        FACTOR,
+        Some(0),
+        &mut nobody,
+    )
 }
 
 fn are_moments(ran: &PaceRan) -> bool {

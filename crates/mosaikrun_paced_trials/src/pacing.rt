@@ -5,6 +5,7 @@ ghost use Rattle.mk_base.specs.Limits.{most_milliseconds};
 use mk_base::{List, Mem};
 use mk_fakes::{Chunk, MemFleet};
 use mk_local::Registry;
+use mk_onlooker::Nobody;
 use mosaikrun_paced::paced_ran;
 use mosaikrun_run::Told;
 use mosaikrun_samples::{COUNTER, is_both, outcome_of};
@@ -46,6 +47,7 @@ fn told<R: Wait>(
 ) -> Told
     requires { IfSome strict (λ ms. ms ≤ most_milliseconds) }
 {
+    let mut nobody = Nobody;
     paced_ran(
         rt,
         alloc,
@@ -55,6 +57,7 @@ fn told<R: Wait>(
         FACTOR,
         strict,
         true,
+        &mut nobody,
     )
 }
 

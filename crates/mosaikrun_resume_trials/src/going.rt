@@ -8,6 +8,7 @@ ghost use Rattle.mosaikrun_sayings.specs.Sayings.{ids_of};
 
 use mk_base::Mem;
 use mk_local::Registry;
+use mk_onlooker::Nobody;
 use mk_outside::Fleet;
 use mosaikrun_endings::Ending;
 use mosaikrun_resume::{Study, resumed, study_of};
@@ -62,7 +63,17 @@ fn gone_on<F: Fleet, R: Wait>(
     requires runnable { IsRunnable (map name_of (rows_in kinds.now)) study.scenario study.ranks }
     requires ids { study.ids ≡ ids_of study.scenario }
 {
-    let told = resumed(rt, alloc, kinds, study, old.as_bytes(), fleet, true);
+    let mut nobody = Nobody;
+    let told = resumed(
+        rt,
+        alloc,
+        kinds,
+        study,
+        old.as_bytes(),
+        fleet,
+        true,
+        &mut nobody,
+    );
     let outcome = outcome_of(alloc, &told);
     drop(told);
     outcome
