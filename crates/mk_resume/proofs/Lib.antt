@@ -7,5 +7,6 @@ pub mod Linkless
 pub mod OneOther
 pub mod Refused
 pub mod Saying
+pub mod Shown
 pub mod Whole
 pub mod WholeRuns

@@ -1,4 +1,5 @@
 -- The definitions of mk_resume, by their files.
 pub mod Laws
 pub mod Resumed
+pub mod Showings
 pub mod inner

@@ -21,12 +21,15 @@ ghost use Rattle.mk_run.specs.inner.Underway.{Setting};
 ghost use Rattle.mk_run.specs.inner.Turns.{AreLinksOpen, IsStill};
 ghost use Rattle.mk_resume_loop.specs.inner.Turns.{IsSized};
 ghost use Rattle.mk_resume.specs.Resumed.{EndsAtStart, ResumesAs};
-ghost use Rattle.mk_resume.specs.inner.Going.{CatchesUpAs, GoesOnAs, IsFresh, IsStarted, PlanResumesAs};
+ghost use Rattle.mk_resume.specs.Showings.{ShowsAsResumed};
+ghost use Rattle.mk_resume.specs.inner.Going.{CatchesUpAs, GoesOnAs, IsFresh, IsStarted, PlanResumesAs, ShowsOnward};
+ghost use Rattle.mk_onlooker.specs.Showings.{IsShown};
 
 use crate::accepting::{Accepted, accept, nothing_left};
 use crate::wholly::resume_within;
 use mk_base::List;
 use mk_local::Registry;
+use mk_onlooker::{Onlooker, show};
 use mk_outside::Fleet;
 use mk_plan::{Journal, Plan};
 use mk_record_read::Saved;
@@ -60,9 +63,13 @@ pub struct ResumeRan {
 /// stopped and closed, for which no memory is needed. Where all simulators are within the program
 /// nothing is done with the fleet.
 ///
+/// The onlooker is shown the journal that the record's messages made, once these were taken, with
+/// what was sent then; and from there on whatever the journal gets, before anything is waited for
+/// and at the end. Where they weren't taken it is shown nothing.
+///
 /// It ends as a run does, or by a record that isn't this run's, or by another message; memory may be
 /// wanting at any time. The messages of the record are known ones, as `read_record` ensures.
-pub fn resume<F: Fleet, R: Wait>(
+pub fn resume<F: Fleet, R: Wait, O: Onlooker>(
     rt: &R,
     alloc: Global,
     scenario: Scenario,
@@ -70,6 +77,7 @@ pub fn resume<F: Fleet, R: Wait>(
     saved: Saved,
     fleet: &mut F,
     kinds: &Registry,
+    onlooker: &mut O,
 ) -> ResumeRan
     requires wellformed { IsWellformed scenario }
     requires ranked { AreRanksOf scenario ranks }
@@ -84,16 +92,18 @@ pub fn resume<F: Fleet, R: Wait>(
         (EndsAtStart result.plan entries result.end) }
     ensures closed { AreNumbered (F.started fleet.old) (F.open_links fleet.old)
         → F.open_links fleet.new ≡ F.open_links fleet.old }
+    ensures shown { ShowsAsResumed O.looks saved result.taken result.plan result.journal onlooker.old
+        onlooker.new }
     ensures within { is_wholly_within scenario ≡ true → fleet.new ≡ fleet.old }
 {
     if is_wholly_within(&scenario) {
-        return resume_within(rt, alloc, scenario, ranks, saved, kinds);
+        return resume_within(rt, alloc, scenario, ranks, saved, kinds, onlooker);
     }
-    resume_over(rt, alloc, scenario, ranks, saved, fleet, kinds)
+    resume_over(rt, alloc, scenario, ranks, saved, fleet, kinds, onlooker)
 }
 
 // Goes on with the run over a fleet, whether or not it is used.
-pub fn resume_over<F: Fleet, R: Wait>(
+pub fn resume_over<F: Fleet, R: Wait, O: Onlooker>(
     rt: &R,
     alloc: Global,
     scenario: Scenario,
@@ -101,6 +111,7 @@ pub fn resume_over<F: Fleet, R: Wait>(
     saved: Saved,
     fleet: &mut F,
     kinds: &Registry,
+    onlooker: &mut O,
 ) -> ResumeRan
     requires wellformed { IsWellformed scenario }
     requires ranked { AreRanksOf scenario ranks }
@@ -115,15 +126,17 @@ pub fn resume_over<F: Fleet, R: Wait>(
         (EndsAtStart result.plan entries result.end) }
     ensures closed { AreNumbered (F.started fleet.old) (F.open_links fleet.old)
         → F.open_links fleet.new ≡ F.open_links fleet.old }
+    ensures shown { ShowsAsResumed O.looks saved result.taken result.plan result.journal onlooker.old
+        onlooker.new }
 {
     match Crew::begin(rt, alloc, scenario, ranks, fleet, kinds) {
-        Ok((crew, plan)) => resume_plan(rt, alloc, plan, saved, crew, fleet, kinds),
+        Ok((crew, plan)) => resume_plan(rt, alloc, plan, saved, crew, fleet, kinds, onlooker),
         Err(halt) => nothing_left(ResumeEnd::Outcome(Outcome::from(halt))),
     }
 }
 
 // Goes on over the crew that the handshake left, with its plan, and stops it.
-fn resume_plan<F: Fleet, R: Wait>(
+fn resume_plan<F: Fleet, R: Wait, O: Onlooker>(
     rt: &R,
     alloc: Global,
     plan: Plan,
@@ -131,6 +144,7 @@ fn resume_plan<F: Fleet, R: Wait>(
     crew: Crew,
     fleet: &mut F,
     kinds: &Registry,
+    onlooker: &mut O,
 ) -> ResumeRan
     requires known { All (IsKnown saved.plan) (map came saved.arrivals) }
     requires started { (A : Attempt) × (A.rows ≡ rows_in kinds.now) × IsStarted A crew plan }
@@ -139,12 +153,16 @@ fn resume_plan<F: Fleet, R: Wait>(
     ensures ran { (entries : List LogEntry) × Adds entries (F.log fleet.old) (F.log fleet.new)
         × PlanResumesAs plan saved crew entries (F.faults fleet.old)
         (F.faults fleet.new) result.taken result.plan result.journal result.end }
+    ensures shown { ShowsAsResumed O.looks saved result.taken result.plan result.journal onlooker.old
+        onlooker.new }
     ensures same_count { F.started fleet.new ≡ F.started fleet.old }
     ensures closed { F.open_links fleet.new
         ≡ without_all (links_in crew.places) (F.open_links fleet.old) }
 {
     match accept(alloc, plan, saved) {
-        Accepted::Onward(core, behind) => go_on(rt, alloc, core, behind, crew, fleet, kinds),
+        Accepted::Onward(core, behind) => go_on(
+            rt, alloc, core, behind, crew, fleet, kinds, onlooker,
+        ),
         Accepted::Refused(ran) => {
             crew.stop(fleet);
             ran
@@ -153,7 +171,7 @@ fn resume_plan<F: Fleet, R: Wait>(
 }
 
 // Goes on from a core that has taken a record's messages, and stops the crew.
-fn go_on<F: Fleet, R: Wait>(
+fn go_on<F: Fleet, R: Wait, O: Onlooker>(
     rt: &R,
     alloc: Global,
     core: Core,
@@ -161,6 +179,7 @@ fn go_on<F: Fleet, R: Wait>(
     crew: Crew,
     fleet: &mut F,
     kinds: &Registry,
+    onlooker: &mut O,
 ) -> ResumeRan
     requires going { core.ended ≡ None }
     requires unhalted { crew.halt ≡ None }
@@ -173,6 +192,7 @@ fn go_on<F: Fleet, R: Wait>(
     ensures ran { (entries : List LogEntry) × Adds entries (F.log fleet.old) (F.log fleet.new)
         × GoesOnAs core crew entries (F.faults fleet.old)
         (F.faults fleet.new) result.plan result.journal result.end }
+    ensures shown { ShowsOnward O.looks core result.plan result.journal onlooker.old onlooker.new }
     ensures same_count { F.started fleet.new ≡ F.started fleet.old }
     ensures closed { F.open_links fleet.new
         ≡ without_all (links_in crew.places) (F.open_links fleet.old) }
@@ -180,7 +200,16 @@ fn go_on<F: Fleet, R: Wait>(
     let mut core = core;
     let mut behind = behind;
     let mut crew = crew;
-    let end = catch_up(rt, alloc, &mut core, &mut crew, fleet, kinds, &mut behind);
+    let end = catch_up(
+        rt,
+        alloc,
+        &mut core,
+        &mut crew,
+        fleet,
+        kinds,
+        &mut behind,
+        onlooker,
+    );
     crew.stop(fleet);
     let (plan, journal) = core.into_parts();
     ResumeRan {
@@ -191,8 +220,8 @@ fn go_on<F: Fleet, R: Wait>(
     }
 }
 
-// Sends each simulator its first item, and goes on until the first end.
-fn catch_up<F: Fleet, R: Wait>(
+// Sends each simulator its first item, and goes on until the first end. All that the journal has is shown.
+fn catch_up<F: Fleet, R: Wait, O: Onlooker>(
     rt: &R,
     alloc: Global,
     core: &mut Core,
@@ -200,6 +229,7 @@ fn catch_up<F: Fleet, R: Wait>(
     fleet: &mut F,
     kinds: &Registry,
     behind: &mut Behind,
+    onlooker: &mut O,
 ) -> ResumeEnd
     requires going { core.old.ended ≡ None }
     requires unhalted { crew.old.halt ≡ None }
@@ -214,10 +244,16 @@ fn catch_up<F: Fleet, R: Wait>(
         × CatchesUpAs entries
         (HasRisen (F.faults fleet.old) (F.faults fleet.new)) core.old crew.old core.new crew.new
         result }
+    ensures shown { IsShown O.looks core.new.plan true core.old.entries core.new.entries onlooker.old
+        onlooker.new }
+    ensures same_plan { core.new.plan ≡ core.old.plan }
     ensures still { IsStill crew.old crew.new }
 {
     match begin(core, crew, kinds, behind) {
-        Ok(()) => drive(rt, alloc, core, crew, fleet, kinds, behind),
-        Err(end) => end,
+        Ok(()) => drive(rt, alloc, core, crew, fleet, kinds, behind, onlooker),
+        Err(end) => {
+            show(onlooker, core.plan(), core.journal(), 0, true);
+            end
+        }
     }
 }

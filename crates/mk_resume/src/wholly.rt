@@ -10,10 +10,12 @@ ghost use Rattle.mk_run_crew.specs.Wholly.{is_wholly_within};
 ghost use Rattle.mk_scenario.specs.Wellformed.{IsWellformed};
 ghost use Rattle.mk_setup.specs.Ranked.{AreRanksOf};
 ghost use Rattle.mk_resume.specs.Resumed.{ResumesAs};
+ghost use Rattle.mk_resume.specs.Showings.{ShowsAsResumed};
 
 use crate::resuming::{ResumeRan, resume_over};
 use mk_base::{LinkNo, List};
 use mk_local::Registry;
+use mk_onlooker::Onlooker;
 use mk_outside::{Fleet, Listened, ReadLink, Start, Started, Waited, WriteLink};
 use mk_record_read::Saved;
 use mk_scenario::Scenario;
@@ -67,24 +69,29 @@ impl Fleet for NoFleet {
 
 // Goes on with a run whose simulators are all within the program. What it comes to is what it would
 // come to over any fleet with which nothing is done.
-pub fn resume_within<R: Wait>(
+pub fn resume_within<R: Wait, O: Onlooker>(
     rt: &R,
     alloc: Global,
     scenario: Scenario,
     ranks: List<u32>,
     saved: Saved,
     kinds: &Registry,
+    onlooker: &mut O,
 ) -> ResumeRan
     requires wellformed { IsWellformed scenario }
     requires ranked { AreRanksOf scenario ranks }
     requires prepared { IsPrepared scenario (map name_of (rows_in kinds.now)) }
     requires known { All (IsKnown saved.plan) (map came saved.arrivals) }
     requires wholly { is_wholly_within scenario ≡ true }
-    ensures { (started faults : ℕ)
+    ensures ran { (started faults : ℕ)
         → ResumesAs (attempt started scenario ranks (rows_in kinds.now) []) saved result.taken
         result.plan result.journal faults faults
         result.end }
+    ensures shown { ShowsAsResumed O.looks saved result.taken result.plan result.journal onlooker.old
+        onlooker.new }
 {
     let mut none = NoFleet { link: None };
-    resume_over(rt, alloc, scenario, ranks, saved, &mut none, kinds)
+    resume_over(
+        rt, alloc, scenario, ranks, saved, &mut none, kinds, onlooker,
+    )
 }

@@ -1,4 +1,5 @@
 -- The lemmas of mk_resume_loop, by their files.
+pub mod Adding
 pub mod Again
 pub mod Answered
 pub mod Asked

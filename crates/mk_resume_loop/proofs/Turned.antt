@@ -12,6 +12,7 @@ use Rattle.mk_plan.specs.Journals.{Arrival, got}
 use Rattle.mk_outside.specs.declared.fleet.LogEntry.{LogEntry}
 use Rattle.mk_outside.specs.Logs.{Adds}
 use Rattle.mk_outside.proofs.OnLogs.{adds_none, adds_more}
+use Rattle.mk_onlooker.specs.Showings.{AreInRange}
 use Rattle.mk_sched.specs.Cores.{CoreState}
 use Rattle.mk_run_laws.specs.Channels.{Channel}
 use Rattle.mk_run_laws.specs.Crews.{IsHeard}
@@ -103,11 +104,20 @@ pub heard_turn : (risen : Type 0) (core new : CoreState) (entries : List LogEntr
 heard_turn risen core new entries C D E B F s m (Ok done) waits h on_links sims fit t = (t.0, λ T first heard log u. (one_more heard s.0, t.1 T first heard (log ++ entries) (past_it T core first heard log entries C D B s m u waits.0 h on_links sims fit)))
 heard_turn risen core new entries C D E B F s m (Err end) waits h on_links sims fit t = λ T first heard log u. stopping_by ⊥ risen T first new (log ++ entries) E end (λ e. absurd e) (t T first heard (log ++ entries) (past_it T core first heard log entries C D B s m u waits.0 h on_links sims fit))
 
--- whoever was ready was asked before
-pub asked_turn : (risen : Type 0) (old mid new : CoreState) (entries : List LogEntry) (C D E : CrewSeen) (B F : BehindSeen) (r : Result (Unit {0}) ResumeEnd)
-    → ((T : Setting) (first : List Entry) (heard : Counts) (log : List LogEntry) → GoesOn T first heard old log C B → GoesOn T first heard mid log D B) → TurnsAs r entries risen mid D B new E F → TurnsAs r entries risen old C B new E F
-asked_turn risen old mid new entries C D E B F (Ok done) goes t = (t.0, λ T first heard log u. t.1 T first heard log (goes T first heard log u))
-asked_turn risen old mid new entries C D E B F (Err end) goes t = λ T first heard log u. t T first heard log (goes T first heard log u)
+-- and whoever was ready then was asked
+pub asked_then : (risen : Type 0) (old mid new : CoreState) (entries : List LogEntry) (C D E : CrewSeen) (B F G : BehindSeen) (r : Result (Unit {0}) ResumeEnd)
+    → ((T : Setting) (first : List Entry) (heard : Counts) (log : List LogEntry) → GoesOn T first heard old log C B → (next : Counts) × GoesOn T first next mid (log ++ entries) D F) → TurnsAs r [] ⊥ mid D F new E G → TurnsAs r entries risen old C B new E G
+asked_then risen old mid new entries C D E B F G (Ok done) goes t = (
+  t.0,
+  λ T first heard log u. let w = goes T first heard log u in let v = t.1 T first w.0 (log ++ entries) w.1 in
+      (v.0, subst (λ (l : List LogEntry). GoesOn T first v.0 new l E G) (append_nil (log ++ entries)) v.1),
+)
+asked_then risen old mid new entries C D E B F G (Err end) goes t = λ T first heard log u. let w = goes T first heard log u in
+    subst (λ (l : List LogEntry). IsStopping risen T first new l E end) (append_nil (log ++ entries)) (stopping_by ⊥ risen T first new ((log ++ entries) ++ []) E end (λ e. absurd e) (t T first w.0 (log ++ entries) w.1))
+
+-- whoever was ready was asked, and nothing was heard
+pub asked_alone : (old new : CoreState) (C D : CrewSeen) (B : BehindSeen) (p : Pause) → AsksAllAs (Ok p) old C new D B → TurnsAs (Ok tt) [] ⊥ old C B new D B
+asked_alone old new C D B p asks = (asks.0, λ T first heard log u. (heard, subst (λ (l : List LogEntry). GoesOn T first heard new l D B) (sym (append_nil log)) (asks.3 T first heard log u)))
 
 -- the run ended while whoever was ready was asked
 pub asked_end : (risen : Type 0) (old new : CoreState) (C D : CrewSeen) (B F : BehindSeen) (end : ResumeEnd) → ((T : Setting) (first : List Entry) (heard : Counts) (log : List LogEntry) → GoesOn T first heard old log C B → IsStopping ⊥ T first new log D end) → TurnsAs (Err end) [] risen old C B new D F
@@ -132,6 +142,12 @@ pub waits_so : (old new : CoreState) (C D : CrewSeen) (B : BehindSeen) (p : Paus
 waits_so old new C D B p asks (inl is) = (asks.1, inl (subst (λ (q : Pause). IsPausing q new) is asks.2))
 waits_so old new C D B p asks (inr somebody) = (asks.1, inr somebody)
 
+-- ---- each message of the journal may be written
+
+pub turned_in_range : (entries : List LogEntry) (risen : Type 0) (old new : CoreState) (C D : CrewSeen) (B F : BehindSeen) (r : Result (Unit {0}) ResumeEnd) (T : Setting) (first : List Entry) (heard : Counts) (log : List LogEntry) → GoesOn T first heard old log C B → TurnsAs r entries risen old C B new D F → AreInRange new.entries
+turned_in_range entries risen old new C D B F (Ok done) T first heard log u t = (t.1 T first heard log u).1.0.in_range
+turned_in_range entries risen old new C D B F (Err end) T first heard log u t = (t T first heard log u).1.in_range
+
 -- ---- turns one after another
 
 -- by these entries the run has gone on
@@ -140,8 +156,13 @@ pub record Gone (old new : CoreState) (C D : CrewSeen) (B F : BehindSeen) (befor
   pub adds : Adds entries before after
   pub goes : (T : Setting) (first : List Entry) (heard : Counts) (log : List LogEntry) → GoesOn T first heard old log C B → (next : Counts) × GoesOn T first next new (log ++ entries) D F
 
-pub none_gone : (core : CoreState) (C : CrewSeen) (B : BehindSeen) (log : Option (List LogEntry)) → Gone core core C C B B log log
-none_gone core C B log = record { entries = []; adds = adds_none log; goes = λ T first heard l u. (heard, subst (λ (k : List LogEntry). GoesOn T first heard core k C B) (sym (append_nil l)) u) }
+-- nothing was heard yet
+pub first_gone : (old new : CoreState) (C D : CrewSeen) (B : BehindSeen) (log : Option (List LogEntry))
+    → ((T : Setting) (first : List Entry) (heard : Counts) (log : List LogEntry) → GoesOn T first heard old log C B → (next : Counts) × GoesOn T first next new (log ++ []) D B) → Gone old new C D B B log log
+first_gone old new C D B log goes = record { entries = []; adds = adds_none log; goes = goes }
+
+pub asked_to_end : (risen : Type 0) (old new : CoreState) (C D : CrewSeen) (B F : BehindSeen) (end : ResumeEnd) → TurnsAs (Err end) [] ⊥ old C B new D F → TurnsAs (Err end) [] risen old C B new D F
+asked_to_end risen old new C D B F end stops = λ T first heard log u. stopping_by ⊥ risen T first new (log ++ []) D end (λ e. absurd e) (stops T first heard log u)
 
 pub gone_on : (old mid new : CoreState) (C D E : CrewSeen) (B F G : BehindSeen) (x y z : Option (List LogEntry)) (more : List LogEntry) → Gone old mid C D B F x y → Adds more y z
     → ((T : Setting) (first : List Entry) (heard : Counts) (log : List LogEntry) → GoesOn T first heard mid log D F → (next : Counts) × GoesOn T first next new (log ++ more) E G) → Gone old new C E B G x z

@@ -1,6 +1,6 @@
-//! The loop of a resumed run: whoever is ready is asked, and one message is heard; it is one that
-//! its simulator has to send again, or the core takes it.
-ghost use Rattle.std.specs.Prelude.{◌≡◌, ◌≤◌, ◌<◌, ◌+◌, ◌⊎◌, ℕ, List, None, Some, Err, IfErr, OnErr, OnOk, true, false, length, slice_get};
+//! The loop of a resumed run: one message is heard, whoever is ready then is asked, and what the journal has got by that
+//! is shown. A message is one that its simulator has to send again, or the core takes it.
+ghost use Rattle.std.specs.Prelude.{◌≡◌, ◌≤◌, ◌<◌, ◌+◌, ◌⊎◌, ℕ, List, [], None, Some, Err, IfErr, OnErr, OnOk, true, false, length, drop, slice_get};
 ghost use Rattle.mk_outside.specs.declared.fleet.LogEntry.{LogEntry};
 ghost use Rattle.mk_local.specs.Registries.{rows_in};
 ghost use Rattle.mk_plan.specs.declared.Entry.{Entry};
@@ -27,12 +27,14 @@ ghost use Rattle.mk_local.specs.declared.turn.Turn.{Turn};
 ghost use Rattle.mk_plan.specs.declared.Item.{Item};
 ghost use Rattle.mk_resume_loop.specs.inner.Asking.{AsksAs};
 ghost use Rattle.mk_plan.specs.Messages.{is_message_in_range};
+ghost use Rattle.mk_onlooker.specs.Showings.{AddsBatch, AddsItems, IsShown};
 
 use crate::behind::{Behind, Standing};
 use crate::ending::{Pause, ResumeEnd};
 use crate::resending::go_on;
 use mk_base::SimNo;
 use mk_local::Registry;
+use mk_onlooker::{Onlooker, show};
 use mk_outside::Fleet;
 use mk_plan::{Entry, Message};
 use mk_record_compare::same_message;
@@ -55,6 +57,8 @@ fn ask_all(
     requires underway { (T : Setting) × (first : List Entry) × (heard : Counts)
         × (log : List LogEntry) × GoesOn T first heard core.old log crew.old behind.now }
     ensures asked_all { AsksAllAs result core.old crew.old core.new crew.new behind.now }
+    ensures items { AddsItems core.old.entries core.new.entries }
+    ensures same_plan { core.new.plan ≡ core.old.plan }
     ensures still { IsStill crew.old crew.new }
     ensures same_halt { crew.new.halt ≡ crew.old.halt }
 {
@@ -134,6 +138,8 @@ fn take(
         × IsPast T first heard core.old log sim message crew.old behind.now }
     ensures taken { TakesAs result sim message core.old crew.old behind.now core.new crew.new
         behind.now }
+    ensures batch { AddsBatch core.old.entries core.new.entries }
+    ensures same_plan { core.new.plan ≡ core.old.plan }
     ensures still { IsStill crew.old crew.new }
     ensures same_halt { crew.new.halt ≡ crew.old.halt }
 {
@@ -235,6 +241,8 @@ fn accept(
         × IsPast T first heard core.old log sim message crew.old behind.old }
     ensures taken { TakesAs result sim message core.old crew.old behind.old core.new crew.new
         behind.new }
+    ensures batch { AddsBatch core.old.entries core.new.entries }
+    ensures same_plan { core.new.plan ≡ core.old.plan }
     ensures still { IsStill crew.old crew.new }
     ensures same_halt { crew.new.halt ≡ crew.old.halt }
 {
@@ -267,6 +275,8 @@ fn hear<F: Fleet, R: Wait>(
     ensures turned { GrowsBy F.log F.faults fleet.old fleet.new
         (λ entries risen. TurnsAs result entries risen core.old crew.old behind.old core.new
         crew.new behind.new) }
+    ensures batch { AddsBatch core.old.entries core.new.entries }
+    ensures same_plan { core.new.plan ≡ core.old.plan }
     ensures still { IsStill crew.old crew.new }
     ensures unhalted { OnOk result (crew.new.halt ≡ None) }
 {
@@ -287,9 +297,58 @@ fn is_over(pause: &Pause, behind: &Behind) -> bool
     }
 }
 
-// Asks whoever is ready, and hears one message. It is over where nothing is left to do and nobody
-// is behind.
-fn turn<F: Fleet, R: Wait>(
+// Asks whoever is ready. It is over where nothing is left to do and nobody is behind.
+fn ask_on(
+    core: &mut Core,
+    crew: &mut Crew,
+    kinds: &Registry,
+    behind: &Behind,
+) -> Result<(), ResumeEnd>
+    requires going { core.old.ended ≡ None }
+    requires known { AreOf (rows_in kinds.now) (within_of crew.old) }
+    requires underway { (T : Setting) × (first : List Entry) × (heard : Counts)
+        × (log : List LogEntry) × GoesOn T first heard core.old log crew.old behind.now }
+    ensures asked { TurnsAs result [] ⊥ core.old crew.old behind.now core.new crew.new behind.now }
+    ensures waits { OnOk result (Waits core.new behind.now) }
+    ensures items { AddsItems core.old.entries core.new.entries }
+    ensures same_plan { core.new.plan ≡ core.old.plan }
+    ensures still { IsStill crew.old crew.new }
+    ensures same_halt { crew.new.halt ≡ crew.old.halt }
+{
+    let pause = ask_all(core, crew, kinds, behind)?;
+    if is_over(&pause, behind) {
+        return Err(ResumeEnd::Outcome(Outcome::Done));
+    }
+    Ok(())
+}
+
+// Asks whoever is ready at first, and shows all that there is.
+fn ask_first<O: Onlooker>(
+    core: &mut Core,
+    crew: &mut Crew,
+    kinds: &Registry,
+    behind: &Behind,
+    onlooker: &mut O,
+) -> Result<(), ResumeEnd>
+    requires going { core.old.ended ≡ None }
+    requires known { AreOf (rows_in kinds.now) (within_of crew.old) }
+    requires underway { (T : Setting) × (first : List Entry) × (heard : Counts)
+        × (log : List LogEntry) × GoesOn T first heard core.old log crew.old behind.now }
+    ensures asked { TurnsAs result [] ⊥ core.old crew.old behind.now core.new crew.new behind.now }
+    ensures waits { OnOk result (Waits core.new behind.now) }
+    ensures shown { IsShown O.looks core.new.plan true core.old.entries core.new.entries onlooker.old
+        onlooker.new }
+    ensures same_plan { core.new.plan ≡ core.old.plan }
+    ensures still { IsStill crew.old crew.new }
+    ensures same_halt { crew.new.halt ≡ crew.old.halt }
+{
+    let result = ask_on(core, crew, kinds, behind);
+    show(onlooker, core.plan(), core.journal(), 0, true);
+    result
+}
+
+// Hears one message, and asks whoever is ready then.
+fn hear_and_ask<F: Fleet, R: Wait>(
     rt: &R,
     alloc: Global,
     core: &mut Core,
@@ -301,6 +360,7 @@ fn turn<F: Fleet, R: Wait>(
     requires going { core.old.ended ≡ None }
     requires unhalted { crew.old.halt ≡ None }
     requires known { AreOf (rows_in kinds.now) (within_of crew.old) }
+    requires waits { Waits core.old behind.old }
     requires underway { (T : Setting) × (first : List Entry) × (heard : Counts)
         × (log : List LogEntry) × GoesOn T first heard core.old log crew.old behind.old
         × AreLinksOpen T (F.open_links fleet.old) }
@@ -310,19 +370,18 @@ fn turn<F: Fleet, R: Wait>(
     ensures turned { GrowsBy F.log F.faults fleet.old fleet.new
         (λ entries risen. TurnsAs result entries risen core.old crew.old behind.old core.new
         crew.new behind.new) }
+    ensures waits { OnOk result (Waits core.new behind.new) }
+    ensures batch { AddsBatch core.old.entries core.new.entries }
+    ensures same_plan { core.new.plan ≡ core.old.plan }
     ensures still { IsStill crew.old crew.new }
     ensures unhalted { OnOk result (crew.new.halt ≡ None) }
 {
-    let pause = ask_all(core, crew, kinds, behind)?;
-    if is_over(&pause, behind) {
-        return Err(ResumeEnd::Outcome(Outcome::Done));
-    }
-    hear(rt, alloc, core, crew, fleet, kinds, behind)
+    hear(rt, alloc, core, crew, fleet, kinds, behind)?;
+    ask_on(core, crew, kinds, behind)
 }
 
-/// Goes on until the first end: whoever is ready is asked, and one message is heard, which its simulator has to send
-/// again or the core takes.
-pub fn drive<F: Fleet, R: Wait>(
+// Hears one message, asks whoever is ready then, and shows what the journal has got by that.
+fn turn<F: Fleet, R: Wait, O: Onlooker>(
     rt: &R,
     alloc: Global,
     core: &mut Core,
@@ -330,6 +389,47 @@ pub fn drive<F: Fleet, R: Wait>(
     fleet: &mut F,
     kinds: &Registry,
     behind: &mut Behind,
+    onlooker: &mut O,
+) -> Result<(), ResumeEnd>
+    requires going { core.old.ended ≡ None }
+    requires unhalted { crew.old.halt ≡ None }
+    requires known { AreOf (rows_in kinds.now) (within_of crew.old) }
+    requires waits { Waits core.old behind.old }
+    requires underway { (T : Setting) × (first : List Entry) × (heard : Counts)
+        × (log : List LogEntry) × GoesOn T first heard core.old log crew.old behind.old
+        × AreLinksOpen T (F.open_links fleet.old) }
+    ensures count { F.faults fleet.old ≤ F.faults fleet.new }
+    ensures same_count { F.started fleet.new ≡ F.started fleet.old }
+    ensures same_links { F.open_links fleet.new ≡ F.open_links fleet.old }
+    ensures turned { GrowsBy F.log F.faults fleet.old fleet.new
+        (λ entries risen. TurnsAs result entries risen core.old crew.old behind.old core.new
+        crew.new behind.new) }
+    ensures waits { OnOk result (Waits core.new behind.new) }
+    ensures batch { AddsBatch core.old.entries core.new.entries }
+    ensures same_plan { core.new.plan ≡ core.old.plan }
+    ensures shown { O.looks onlooker.old core.new.plan
+        (drop (length core.old.entries) core.new.entries) true onlooker.new }
+    ensures still { IsStill crew.old crew.new }
+    ensures unhalted { OnOk result (crew.new.halt ≡ None) }
+{
+    let shown = core.journal().entries.len();
+    let result = hear_and_ask(rt, alloc, core, crew, fleet, kinds, behind);
+    show(onlooker, core.plan(), core.journal(), shown, true);
+    result
+}
+
+/// Goes on until the first end. Whoever is ready is asked, and all that the journal has is shown. Then one message is
+/// heard at a time, which its simulator has to send again or the core takes; whoever is ready then is asked; and what
+/// the journal has got by that is shown, also at the end.
+pub fn drive<F: Fleet, R: Wait, O: Onlooker>(
+    rt: &R,
+    alloc: Global,
+    core: &mut Core,
+    crew: &mut Crew,
+    fleet: &mut F,
+    kinds: &Registry,
+    behind: &mut Behind,
+    onlooker: &mut O,
 ) -> ResumeEnd
     requires going { core.old.ended ≡ None }
     requires unhalted { crew.old.halt ≡ None }
@@ -343,10 +443,17 @@ pub fn drive<F: Fleet, R: Wait>(
     ensures ended { GrowsBy F.log F.faults fleet.old fleet.new
         (λ entries risen. TurnsAs (Err result) entries risen core.old crew.old behind.old core.new
         crew.new behind.new) }
+    ensures shown { IsShown O.looks core.new.plan true core.old.entries core.new.entries onlooker.old
+        onlooker.new }
+    ensures same_plan { core.new.plan ≡ core.old.plan }
     ensures still { IsStill crew.old crew.new }
 {
+    match ask_first(core, crew, kinds, behind, onlooker) {
+        Ok(()) => {}
+        Err(end) => return end,
+    }
     for _ in rt.forever() {
-        match turn(rt, alloc, core, crew, fleet, kinds, behind) {
+        match turn(rt, alloc, core, crew, fleet, kinds, behind, onlooker) {
             Ok(()) => {}
             Err(end) => return end,
         }

@@ -1,7 +1,8 @@
 -- For proofs alone. What comes of a crew whose handshake is over, and of a core that has taken a
 -- record's messages.
-use Rattle.std.specs.Prelude.{◌≡◌, ℕ, ◌≤◌, Bool, false, List, [], ◌++◌, map, Option, Some, None}
+use Rattle.std.specs.Prelude.{◌≡◌, ℕ, ◌≤◌, Bool, true, false, List, [], ◌++◌, map, Option, Some, None}
 use Rattle.mk_plan.specs.declared.Plan.{Plan}
+use Rattle.mk_plan.specs.declared.Entry.{Entry}
 use Rattle.mk_plan.specs.declared.Journal.{Journal}
 use Rattle.mk_outside.specs.declared.fleet.LogEntry.{LogEntry}
 use Rattle.mk_launch.specs.Ready.{IsPrepared}
@@ -20,6 +21,7 @@ use Rattle.mk_resume_links.specs.inner.Touching.{RestsOver}
 use Rattle.mk_resume_loop.specs.declared.ending.ResumeEnd.{ResumeEnd}
 use Rattle.mk_resume_loop.specs.inner.Turns.{IsSized, IsStopping}
 use Rattle.mk_resume_loop.specs.inner.Underway.{IsResumingWith, course_of, saved_of}
+use Rattle.mk_onlooker.specs.Showings.{IsShown}
 use Rattle.mk_resume.specs.declared.accepting.Accepted.{Accepted}
 use Rattle.mk_resume.specs.declared.accepting.Accepted.TheVariants as accepted
 use Rattle.mk_resume.specs.Resumed.{HasFaultySaved, IsRefusedBy, IsResumed, ResumesAs}
@@ -55,6 +57,14 @@ GoesOnAs core C entries faults new_faults (Some P) (Some J) end = (saved : Saved
     × (r.replies ≡ T.replies)
 GoesOnAs core C entries faults new_faults (Some P) None end = ⊥
 GoesOnAs core C entries faults new_faults None J end = ⊥
+
+-- all that the core had was shown, and what its journal got
+abbrev pub ShowsOnward : {O : Type 0} → (O → Plan → List Entry → Bool → O → Type 0) → CoreState
+    → Option Plan → Option Journal → O → O → Type 0
+ShowsOnward looks core (Some P) (Some J) old new = (P ≡ core.plan)
+    × IsShown looks P true core.entries J.entries old new
+ShowsOnward looks core (Some P) None old new = ⊥
+ShowsOnward looks core None J old new = ⊥
 
 -- why a record wasn't taken, and what is left of it
 abbrev pub RefusesAs : Plan → Saved → Option Plan → Option Journal → ResumeEnd → Type 0

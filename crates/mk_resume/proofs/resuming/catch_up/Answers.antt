@@ -6,6 +6,7 @@ use Rattle.mk_outside.specs.declared.fleet.LogEntry.{LogEntry}
 use Rattle.mk_outside.proofs.OnLogs.{adds_none}
 use Rattle.mk_resume_loop.specs.inner.Turns.{IsStopping}
 use Rattle.mk_resume_loop.proofs.Turned.{stopping_by}
+use Rattle.mk_resume.proofs.Shown.{had_shown}
 use Rattle.mk_resume.proofs.resuming.catch_up.Goals as goal
 
 pub begin-requires-clause-underway : goal.begin-requires-clause-underway
@@ -24,3 +25,6 @@ returns-in-Err-clause-ended g c = (
   (λ T log u. subst (λ (l : List LogEntry). IsStopping (HasRisen (g.F.Fleet.faults c.args.fleet.now) (g.F.Fleet.faults c.args.fleet.now)) T c.args.core.now.entries c.args.core.now l c.begin.new.crew c.in-Err.end) (sym (append_nil log))
       (stopping_by ⊥ (HasRisen (g.F.Fleet.faults c.args.fleet.now) (g.F.Fleet.faults c.args.fleet.now)) T c.args.core.now.entries c.args.core.now log c.begin.new.crew c.in-Err.end (λ e. absurd e) (c.in-Err.ensures.begun T log u.resuming u.over))),
 )
+
+pub returns-in-Err-clause-shown : goal.returns-in-Err-clause-shown
+returns-in-Err-clause-shown g c = had_shown g.O.Onlooker.looks c.args.onlooker.now c.show.new.onlooker c.args.core.now.plan _ c.args.core.now.entries _ c.plan.ensures c.journal.ensures.same c.show.ensures.looked

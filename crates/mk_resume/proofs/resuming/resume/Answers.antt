@@ -9,6 +9,6 @@ pub returns-then-is_wholly_within-clause-ran : goal.returns-then-is_wholly_withi
 returns-then-is_wholly_within-clause-ran g c = (
   [],
   adds_none _,
-  c.resume_within.ensures (g.F.Fleet.started c.args.fleet.now) (g.F.Fleet.faults c.args.fleet.now),
+  c.resume_within.ensures.ran (g.F.Fleet.started c.args.fleet.now) (g.F.Fleet.faults c.args.fleet.now),
   none_started c.args.scenario _ _ (sym c.is_wholly_within.ensures ∙ c.if-is_wholly_within.true),
 )

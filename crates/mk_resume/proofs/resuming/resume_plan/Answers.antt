@@ -6,6 +6,7 @@ use Rattle.mk_run_crew.specs.Seen.{within_of}
 use Rattle.mk_resume.specs.inner.Going.{PlanResumesAs}
 use Rattle.mk_resume.proofs.Beginning.{begins_fresh, open_fresh, setting_at}
 use Rattle.mk_resume.proofs.Refused.{plan_goes_on, plan_refuses}
+use Rattle.mk_resume.proofs.Shown.{shows_on}
 use Rattle.mk_resume.proofs.resuming.resume_plan.Goals as goal
 
 pub accept-requires-clause-valid : goal.accept-requires-clause-valid
@@ -42,3 +43,6 @@ returns-in-Refused-clause-ran g c =
       subst (λ (b : Bool). PlanResumesAs c.args.plan c.args.saved c.args.crew s.0 (g.F.Fleet.faults c.args.fleet.now) (g.F.Fleet.faults c.stop.new.fleet) b c.in-Refused.ran.plan c.in-Refused.ran.journal c.in-Refused.ran.end) (sym a.0)
           (plan_refuses c.args.plan c.args.saved c.args.crew s.0 (g.F.Fleet.faults c.args.fleet.now) (g.F.Fleet.faults c.stop.new.fleet) c.in-Refused.ran.plan c.in-Refused.ran.journal c.in-Refused.ran.end a.1 s.2 s.3 s.4),
     )
+
+pub returns-in-Onward-clause-shown : goal.returns-in-Onward-clause-shown
+returns-in-Onward-clause-shown g c = shows_on g.O.Onlooker.looks c.args.onlooker.now c.go_on.new.onlooker c.args.plan c.args.saved c.in-Onward.core c.go_on.result.taken c.go_on.result.plan c.go_on.result.journal c.go_on.ensures.taken c.in-Onward.ensures.1 c.go_on.ensures.shown

@@ -8,6 +8,7 @@ use Rattle.mk_run_crew.specs.Seen.{within_of}
 use Rattle.mk_run.specs.inner.Underway.{Setting}
 use Rattle.mk_run.specs.inner.Turns.{IsStill}
 use Rattle.mk_resume_links.specs.Rests.{Counts}
+use Rattle.mk_onlooker.specs.Showings.{AddsItems}
 use Rattle.mk_resume_loop.specs.inner.Turns.{GoesOn}
 use Rattle.mk_resume_loop.proofs.catching.ask_all.Given as goal
 
@@ -19,6 +20,8 @@ invariant-asking g l = record {
   still : IsStill l.fn.crew l.crew;
   same_halt : l.crew.halt ≡ l.fn.crew.halt;
   goes : (T : Setting) (first : List Entry) (heard : Counts) (log : List LogEntry) → GoesOn T first heard l.fn.core log l.fn.crew l.fn.behind → GoesOn T first heard l.core log l.crew l.behind;
+  items : AddsItems l.fn.core.entries l.core.entries;
+  same_plan : l.core.plan ≡ l.fn.core.plan;
 }
 
 abbrev pub decreases-asking : goal.decreases-asking
