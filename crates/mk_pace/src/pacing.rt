@@ -1,5 +1,5 @@
 //! A paced run over a fleet with a clock.
-ghost use Rattle.std.specs.Prelude.{◌≡◌, ◌≤◌, ◌∷◌, List, [], IfOk, IfSome, IsSome, None, map, replicate};
+ghost use Rattle.std.specs.Prelude.{◌≡◌, ◌≤◌, ◌∷◌, List, [], IfOk, IfSome, IsSome, None, map, replicate, true};
 ghost use Rattle.mk_outside.specs.declared.fleet.LogEntry.{LogEntry};
 ghost use Rattle.mk_outside.specs.declared.fleet.LogEntry.TheVariants.{Told};
 ghost use Rattle.mk_outside.specs.Counts.{HasRisen};
@@ -27,9 +27,11 @@ ghost use Rattle.mk_pace_loop.specs.inner.Turns.{GoesOn};
 ghost use Rattle.mk_pace.specs.inner.Going.{AddsRising, GoesOnAs, IsStarted, PlanPacesAs};
 ghost use Rattle.mk_base.specs.Limits.{most_milliseconds};
 ghost use Rattle.mk_outside.specs.Fleets.{last_moment};
+ghost use Rattle.mk_onlooker.specs.Showings.{IsShownIn};
 
 use mk_base::{List, Mem};
 use mk_local::Registry;
+use mk_onlooker::Onlooker;
 use mk_outside::{Now, Paced};
 use mk_pace_laws::{PaceEnd, PaceRan};
 use mk_pace_loop::{Waiting, drive};
@@ -50,7 +52,10 @@ use std::sync::Wait;
 ///
 /// The plan and the journal are there wherever the handshake was made, the clock told the origin,
 /// and there was memory for the run. A clock that fails ends it as a fleet that fails does.
-pub fn paced<F: Paced, R: Wait>(
+///
+/// The onlooker is shown the whole journal: what was asked before anything was heard, and then what
+/// each message brings, before the fleet sleeps. Where there is no journal it is shown nothing.
+pub fn paced<F: Paced, R: Wait, O: Onlooker>(
     rt: &R,
     alloc: Global,
     scenario: Scenario,
@@ -59,6 +64,7 @@ pub fn paced<F: Paced, R: Wait>(
     kinds: &Registry,
     factor: u64,
     strict: Option<u64>,
+    onlooker: &mut O,
 ) -> PaceRan
     requires wellformed { IsWellformed scenario }
     requires ranked { AreRanksOf scenario ranks }
@@ -77,9 +83,12 @@ pub fn paced<F: Paced, R: Wait>(
         (EndsAtStart result.plan entries result.end) }
     ensures closed { AreNumbered (F.Fleet.started fleet.old) (F.Fleet.open_links fleet.old)
         → F.Fleet.open_links fleet.new ≡ F.Fleet.open_links fleet.old }
+    ensures shown { IsShownIn O.looks true result.plan result.journal onlooker.old onlooker.new }
 {
     match Crew::begin(rt, alloc, scenario, ranks, fleet, kinds) {
-        Ok((crew, plan)) => pace_plan(rt, alloc, plan, crew, fleet, kinds, factor, strict),
+        Ok((crew, plan)) => pace_plan(
+            rt, alloc, plan, crew, fleet, kinds, factor, strict, onlooker,
+        ),
         Err(halt) => unpaced(alloc, Outcome::from(halt)),
     }
 }
@@ -117,7 +126,7 @@ fn stop_early<F: Paced>(alloc: Global, crew: Crew, fleet: &mut F, outcome: Outco
 }
 
 // Looks at the clock for the first time, and runs a plan over the crew that the handshake left.
-fn pace_plan<F: Paced, R: Wait>(
+fn pace_plan<F: Paced, R: Wait, O: Onlooker>(
     rt: &R,
     alloc: Global,
     plan: Plan,
@@ -126,6 +135,7 @@ fn pace_plan<F: Paced, R: Wait>(
     kinds: &Registry,
     factor: u64,
     strict: Option<u64>,
+    onlooker: &mut O,
 ) -> PaceRan
     requires most { factor ≤ most_milliseconds }
     requires started { (A : Attempt) × (A.rows ≡ rows_in kinds.now) × IsStarted A crew plan }
@@ -138,15 +148,18 @@ fn pace_plan<F: Paced, R: Wait>(
     ensures same_count { F.Fleet.started fleet.new ≡ F.Fleet.started fleet.old }
     ensures closed { F.Fleet.open_links fleet.new
         ≡ without_all (links_in crew.places) (F.Fleet.open_links fleet.old) }
+    ensures shown { IsShownIn O.looks true result.plan result.journal onlooker.old onlooker.new }
 {
     match fleet.now() {
-        Now::At(origin) => pace_from(rt, alloc, plan, crew, fleet, kinds, origin, factor, strict),
+        Now::At(origin) => pace_from(
+            rt, alloc, plan, crew, fleet, kinds, origin, factor, strict, onlooker,
+        ),
         Now::Failed => stop_early(alloc, crew, fleet, Outcome::Fleet),
     }
 }
 
 // Runs a plan whose Steps wait from this origin on.
-fn pace_from<F: Paced, R: Wait>(
+fn pace_from<F: Paced, R: Wait, O: Onlooker>(
     rt: &R,
     alloc: Global,
     plan: Plan,
@@ -156,6 +169,7 @@ fn pace_from<F: Paced, R: Wait>(
     origin: u64,
     factor: u64,
     strict: Option<u64>,
+    onlooker: &mut O,
 ) -> PaceRan
     requires first { origin ≤ last_moment }
     requires most { factor ≤ most_milliseconds }
@@ -169,9 +183,10 @@ fn pace_from<F: Paced, R: Wait>(
     ensures same_count { F.Fleet.started fleet.new ≡ F.Fleet.started fleet.old }
     ensures closed { F.Fleet.open_links fleet.new
         ≡ without_all (links_in crew.places) (F.Fleet.open_links fleet.old) }
+    ensures shown { IsShownIn O.looks true result.plan result.journal onlooker.old onlooker.new }
 {
     match make(alloc, plan, origin, factor, strict) {
-        Ok((core, waiting)) => go_on(rt, core, waiting, crew, fleet, kinds),
+        Ok((core, waiting)) => go_on(rt, core, waiting, crew, fleet, kinds, onlooker),
         Err(_) => stop_early(alloc, crew, fleet, Outcome::Mem),
     }
 }
@@ -202,13 +217,14 @@ fn make(
 }
 
 // Goes on until the first end, and stops the crew.
-fn go_on<F: Paced, R: Wait>(
+fn go_on<F: Paced, R: Wait, O: Onlooker>(
     rt: &R,
     core: Core,
     waiting: Waiting,
     crew: Crew,
     fleet: &mut F,
     kinds: &Registry,
+    onlooker: &mut O,
 ) -> PaceRan
     requires going { core.ended ≡ None }
     requires unhalted { crew.halt ≡ None }
@@ -223,11 +239,21 @@ fn go_on<F: Paced, R: Wait>(
     ensures same_count { F.Fleet.started fleet.new ≡ F.Fleet.started fleet.old }
     ensures closed { F.Fleet.open_links fleet.new
         ≡ without_all (links_in crew.places) (F.Fleet.open_links fleet.old) }
+    ensures shown { core.entries ≡ []
+        → IsShownIn O.looks true result.plan result.journal onlooker.old onlooker.new }
 {
     let mut core = core;
     let mut waiting = waiting;
     let mut crew = crew;
-    let end = drive(rt, &mut core, &mut crew, &mut waiting, fleet, kinds);
+    let end = drive(
+        rt,
+        &mut core,
+        &mut crew,
+        &mut waiting,
+        fleet,
+        kinds,
+        onlooker,
+    );
     crew.stop(fleet);
     let (plan, journal) = core.into_parts();
     PaceRan {

@@ -4,6 +4,7 @@ pub mod Asking
 pub mod Ending
 pub mod Fewer
 pub mod Following
+pub mod Gaining
 pub mod Grown
 pub mod HeldFirst
 pub mod Meeting

@@ -226,19 +226,22 @@ unsent_end risen told core C D W V end sent = λ S log u just. subst (λ (l : Li
 pub told_on : (S : Setting) (core : CoreState) (log : List LogEntry) (C : CrewSeen) (W : WaitingSeen) (told : ℕ) → GoesOn S core log C W → GoesOn S core (log ++ Told told ∷ []) C W
 told_on S core log C W told u = reads S W.tempo W.strict core.plan core.entries log (crew_of C) C.sims W.holds W.moments u told
 
-pub turned : (some all : Type 0) (told : ℕ) (old mid new : CoreState) (entries : List LogEntry) (C E : CrewSeen) (W V U : WaitingSeen) (r : Result (Unit {0}) PaceEnd) → (some → all) → AsksAs (Ok tt) old W mid V → PassesAs r told entries some mid C V new E U
-    → TurnsAs r (Told told ∷ [] ++ entries) all old C W new E U
-turned some all told old mid new entries C E W V U (Ok done) up asked t = (t.0, λ S log u. subst (λ (l : List LogEntry). GoesOn S new l E U) (append_assoc log (Told told ∷ []) entries) (t.1 S (log ++ Told told ∷ []) (told_on S mid log C V told (asked.2 S log C u)) (log, refl)))
-turned some all told old mid new entries C E W V U (Err end) up asked t = λ S log u. subst (λ (l : List LogEntry). IsStopping all S new l E U end) (append_assoc log (Told told ∷ []) entries)
-    (stopping_by some all S new ((log ++ Told told ∷ []) ++ entries) E U end up (t S (log ++ Told told ∷ []) (told_on S mid log C V told (asked.2 S log C u)) (log, refl)))
-
--- the run ended while whoever was ready was asked
-pub asked_end : (risen : Type 0) (old new : CoreState) (C : CrewSeen) (W V : WaitingSeen) (end : Outcome) → AsksAs (Err end) old W new V → TurnsAs (Err (pace.Outcome end)) [] risen old C W new C V
-asked_end risen old new C W V end asked = λ S log u. subst (λ (l : List LogEntry). IsStopping risen S new l C V (pace.Outcome end)) (sym (append_nil log)) (stopping_by ⊥ risen S new log C V (pace.Outcome end) (λ e. absurd e) (asked S log C u))
+pub turned : (some all : Type 0) (told : ℕ) (old new : CoreState) (entries : List LogEntry) (C E : CrewSeen) (W U : WaitingSeen) (r : Result (Unit {0}) PaceEnd) → (some → all) → PassesAs r told entries some old C W new E U → TurnsAs r (Told told ∷ [] ++ entries) all old C W new E U
+turned some all told old new entries C E W U (Ok done) up t = (t.0, λ S log u. subst (λ (l : List LogEntry). GoesOn S new l E U) (append_assoc log (Told told ∷ []) entries) (t.1 S (log ++ Told told ∷ []) (told_on S old log C W told u) (log, refl)))
+turned some all told old new entries C E W U (Err end) up t = λ S log u. subst (λ (l : List LogEntry). IsStopping all S new l E U end) (append_assoc log (Told told ∷ []) entries)
+    (stopping_by some all S new ((log ++ Told told ∷ []) ++ entries) E U end up (t S (log ++ Told told ∷ []) (told_on S old log C W told u) (log, refl)))
 
 -- the clock failed
-pub untold_end : (risen : Type 0) (old new : CoreState) (C : CrewSeen) (W V : WaitingSeen) → risen → AsksAs (Ok tt) old W new V → TurnsAs (Err (pace.Outcome outcome.Fleet)) [] risen old C W new C V
-untold_end risen old new C W V rose asked = λ S log u. subst (λ (l : List LogEntry). IsStopping risen S new l C V (pace.Outcome outcome.Fleet)) (sym (append_nil log)) (fleet_ends risen S new log C V (asked.2 S log C u) asked.1 rose)
+pub untold_end : (risen : Type 0) (core : CoreState) (C : CrewSeen) (W : WaitingSeen) → risen → Waits core → TurnsAs (Err (pace.Outcome outcome.Fleet)) [] risen core C W core C W
+untold_end risen core C W rose waits = λ S log u. subst (λ (l : List LogEntry). IsStopping risen S core l C W (pace.Outcome outcome.Fleet)) (sym (append_nil log)) (fleet_ends risen S core log C W u waits rose)
+
+-- and whoever was ready then was asked
+pub asked_then : (risen : Type 0) (old mid new : CoreState) (entries : List LogEntry) (C D : CrewSeen) (W V U : WaitingSeen) → TurnsAs (Ok tt) entries risen old C W mid D V → AsksAs (Ok tt) mid V new U → TurnsAs (Ok tt) entries risen old C W new D U
+asked_then risen old mid new entries C D W V U t asked = (asked.0, λ S log u. asked.2 S (log ++ entries) D (t.1 S log u))
+
+-- or the run ended meanwhile
+pub asked_end : (risen : Type 0) (old mid new : CoreState) (entries : List LogEntry) (C D : CrewSeen) (W V U : WaitingSeen) (end : Outcome) → TurnsAs (Ok tt) entries risen old C W mid D V → AsksAs (Err end) mid V new U → TurnsAs (Err (pace.Outcome end)) entries risen old C W new D U
+asked_end risen old mid new entries C D W V U end t asked = λ S log u. stopping_by ⊥ risen S new (log ++ entries) D U (pace.Outcome end) (λ e. absurd e) (asked S (log ++ entries) D (t.1 S log u))
 
 -- ---- turns one after another
 
@@ -248,8 +251,13 @@ pub record Gone (old new : CoreState) (C D : CrewSeen) (W V : WaitingSeen) (befo
   pub adds : Adds entries before after
   pub goes : (S : Setting) (log : List LogEntry) → GoesOn S old log C W → GoesOn S new (log ++ entries) D V
 
-pub none_gone : (core : CoreState) (C : CrewSeen) (W : WaitingSeen) (log : Option (List LogEntry)) → Gone core core C C W W log log
-none_gone core C W log = record { entries = []; adds = adds_none log; goes = λ S l u. subst (λ (k : List LogEntry). GoesOn S core k C W) (sym (append_nil l)) u }
+-- whoever was ready at first was asked
+pub begun : (old new : CoreState) (C : CrewSeen) (W V : WaitingSeen) (log : Option (List LogEntry)) → AsksAs (Ok tt) old W new V → Gone old new C C W V log log
+begun old new C W V log asked = record { entries = []; adds = adds_none log; goes = λ S l u. subst (λ (k : List LogEntry). GoesOn S new k C V) (sym (append_nil l)) (asked.2 S l C u) }
+
+-- or the run ended there
+pub begun_end : (risen : Type 0) (old new : CoreState) (C : CrewSeen) (W V : WaitingSeen) (end : Outcome) → AsksAs (Err end) old W new V → TurnsAs (Err (pace.Outcome end)) [] risen old C W new C V
+begun_end risen old new C W V end asked = λ S log u. subst (λ (l : List LogEntry). IsStopping risen S new l C V (pace.Outcome end)) (sym (append_nil log)) (stopping_by ⊥ risen S new log C V (pace.Outcome end) (λ e. absurd e) (asked S log C u))
 
 pub gone_on : (old mid new : CoreState) (C D E : CrewSeen) (W V U : WaitingSeen) (first second third : Option (List LogEntry)) (more : List LogEntry) → Gone old mid C D W V first second → Adds more second third
     → ((S : Setting) (log : List LogEntry) → GoesOn S mid log D V → GoesOn S new (log ++ more) E U) → Gone old new C E W U first third

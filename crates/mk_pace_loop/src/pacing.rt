@@ -1,6 +1,6 @@
-//! The loop of a paced run: whoever is ready is asked, what is due is sent, and a message is taken
-//! or the fleet sleeps.
-ghost use Rattle.std.specs.Prelude.{◌≡◌, ◌≤◌, ◌<◌, ℕ, List, [], None, Some, Err, OnErr, OnOk, true, length, slice_get};
+//! The loop of a paced run: what is due is sent, a message is taken or the fleet sleeps, whoever is
+//! ready then is asked, and what that added is shown.
+ghost use Rattle.std.specs.Prelude.{◌≡◌, ◌≤◌, ◌<◌, ℕ, List, [], None, Some, Err, OnErr, OnOk, true, drop, length, slice_get};
 ghost use Rattle.mk_outside.specs.declared.fleet.LogEntry.{LogEntry};
 ghost use Rattle.mk_local.specs.Registries.{rows_in};
 ghost use Rattle.mk_plan.specs.declared.Item.{Item};
@@ -11,14 +11,16 @@ ghost use Rattle.mk_run_crew.specs.Seen.{CrewSeen, within_of};
 ghost use Rattle.mk_run.specs.inner.Sendings.{CanSend, EndsWithItem};
 ghost use Rattle.mk_run.specs.inner.Turns.{AreLinksOpen, GrowsBy, IsStill, Waits};
 ghost use Rattle.mk_run.specs.inner.Underway.{Setting};
-ghost use Rattle.mk_pace_loop.specs.inner.Turns.{AnswersAs, AsksAs, AttendsAs, GoesOn, HasJustTold, IsPast, NapsAs, PassesAs, RisesOn, TakesAs, TurnsAs};
+ghost use Rattle.mk_pace_loop.specs.inner.Turns.{AnswersAs, AsksAs, AttendsAs, GainsBatch, GainsItems, GoesOn, HasJustTold, IsPast, NapsAs, PassesAs, RisesOn, TakesAs, TurnsAs};
 ghost use Rattle.mk_pace_loop.specs.inner.Waiting.{AreEarly, HasTime, IsHeldLast, IsInTime, IsOnTempo};
 ghost use Rattle.mk_plan.specs.Messages.{is_message_in_range};
+ghost use Rattle.mk_onlooker.specs.Showings.{IsShown};
 
 use crate::sending::send_due;
 use crate::waiting::Waiting;
 use mk_base::{Mem, SimNo};
 use mk_local::Registry;
+use mk_onlooker::{Onlooker, show};
 use mk_outside::{Now, Paced, Slept};
 use mk_pace_held::Held;
 use mk_pace_laws::PaceEnd;
@@ -64,6 +66,7 @@ fn ask_all(core: &mut Core, waiting: &mut Waiting) -> Result<(), Outcome>
     requires underway { (S : Setting) × (log : List LogEntry) × (C : CrewSeen)
         × GoesOn S core.old log C waiting.old }
     ensures asked { AsksAs result core.old waiting.old core.new waiting.new }
+    ensures items { GainsItems core.old core.new }
     ensures on_tempo { IsOnTempo waiting.old waiting.new }
 {
     'asking: loop {
@@ -121,6 +124,7 @@ fn take(
         × IsPast S core.old log sim message crew.old waiting.old }
     ensures taken { TakesAs result sim message core.old crew.old waiting.old core.new crew.new
         waiting.new }
+    ensures batch { GainsBatch core.old core.new }
     ensures still { IsStill crew.old crew.new }
     ensures same_halt { crew.new.halt ≡ crew.old.halt }
     ensures on_tempo { IsOnTempo waiting.old waiting.new }
@@ -184,6 +188,7 @@ fn attend<F: Paced>(
     ensures attended { GrowsBy F.Fleet.log F.Fleet.faults fleet.old fleet.new
         (λ entries risen. AttendsAs result told entries risen core.old crew.old waiting.old core.new
         crew.new waiting.new) }
+    ensures batch { GainsBatch core.old core.new }
     ensures rising { RisesOn (F.Fleet.log fleet.old) (F.Fleet.log fleet.new) }
     ensures still { IsStill crew.old crew.new }
     ensures unhalted { OnOk result (crew.new.halt ≡ None) }
@@ -218,6 +223,7 @@ fn pass<F: Paced>(
     ensures passed { GrowsBy F.Fleet.log F.Fleet.faults fleet.old fleet.new
         (λ entries risen. PassesAs result told entries risen core.old crew.old waiting.old core.new
         crew.new waiting.new) }
+    ensures batch { GainsBatch core.old core.new }
     ensures rising { RisesOn (F.Fleet.log fleet.old) (F.Fleet.log fleet.new) }
     ensures still { IsStill crew.old crew.new }
     ensures unhalted { OnOk result (crew.new.halt ≡ None) }
@@ -230,8 +236,8 @@ fn pass<F: Paced>(
     }
 }
 
-// Asks whoever is ready, looks at the clock, sends what is due, and takes a message or sleeps.
-fn turn<F: Paced>(
+// Looks at the clock, sends what is due, and takes a message or sleeps.
+fn tick<F: Paced>(
     core: &mut Core,
     crew: &mut Crew,
     waiting: &mut Waiting,
@@ -241,6 +247,7 @@ fn turn<F: Paced>(
     requires going { core.old.ended ≡ None }
     requires unhalted { crew.old.halt ≡ None }
     requires known { AreOf (rows_in kinds.now) (within_of crew.old) }
+    requires waits { Waits core.old }
     requires underway { (S : Setting) × (log : List LogEntry)
         × GoesOn S core.old log crew.old waiting.old
         × AreLinksOpen S (F.Fleet.open_links fleet.old) }
@@ -250,29 +257,122 @@ fn turn<F: Paced>(
     ensures turned { GrowsBy F.Fleet.log F.Fleet.faults fleet.old fleet.new
         (λ entries risen. TurnsAs result entries risen core.old crew.old waiting.old core.new
         crew.new waiting.new) }
+    ensures batch { GainsBatch core.old core.new }
     ensures rising { RisesOn (F.Fleet.log fleet.old) (F.Fleet.log fleet.new) }
     ensures still { IsStill crew.old crew.new }
     ensures unhalted { OnOk result (crew.new.halt ≡ None) }
     ensures on_tempo { IsOnTempo waiting.old waiting.new }
 {
-    if let Err(end) = ask_all(core, waiting) {
-        return Err(PaceEnd::Outcome(end));
-    }
     match fleet.now() {
         Now::At(told) => pass(core, crew, waiting, fleet, kinds, told),
         Now::Failed => Err(PaceEnd::Outcome(Outcome::Fleet)),
     }
 }
 
+// Looks at the clock, sends what is due, takes a message or sleeps, and asks whoever is ready then.
+fn go_on<F: Paced>(
+    core: &mut Core,
+    crew: &mut Crew,
+    waiting: &mut Waiting,
+    fleet: &mut F,
+    kinds: &Registry,
+) -> Result<(), PaceEnd>
+    requires going { core.old.ended ≡ None }
+    requires unhalted { crew.old.halt ≡ None }
+    requires known { AreOf (rows_in kinds.now) (within_of crew.old) }
+    requires waits { Waits core.old }
+    requires underway { (S : Setting) × (log : List LogEntry)
+        × GoesOn S core.old log crew.old waiting.old
+        × AreLinksOpen S (F.Fleet.open_links fleet.old) }
+    ensures count { F.Fleet.faults fleet.old ≤ F.Fleet.faults fleet.new }
+    ensures same_count { F.Fleet.started fleet.new ≡ F.Fleet.started fleet.old }
+    ensures same_links { F.Fleet.open_links fleet.new ≡ F.Fleet.open_links fleet.old }
+    ensures turned { GrowsBy F.Fleet.log F.Fleet.faults fleet.old fleet.new
+        (λ entries risen. TurnsAs result entries risen core.old crew.old waiting.old core.new
+        crew.new waiting.new) }
+    ensures batch { GainsBatch core.old core.new }
+    ensures waits { OnOk result (Waits core.new) }
+    ensures rising { RisesOn (F.Fleet.log fleet.old) (F.Fleet.log fleet.new) }
+    ensures still { IsStill crew.old crew.new }
+    ensures unhalted { OnOk result (crew.new.halt ≡ None) }
+    ensures on_tempo { IsOnTempo waiting.old waiting.new }
+{
+    if let Err(end) = tick(core, crew, waiting, fleet, kinds) {
+        return Err(end);
+    }
+    match ask_all(core, waiting) {
+        Ok(()) => Ok(()),
+        Err(end) => Err(PaceEnd::Outcome(end)),
+    }
+}
+
+// Goes on by one look at the clock, and shows what the journal has got then.
+fn turn<F: Paced, O: Onlooker>(
+    core: &mut Core,
+    crew: &mut Crew,
+    waiting: &mut Waiting,
+    fleet: &mut F,
+    kinds: &Registry,
+    onlooker: &mut O,
+) -> Result<(), PaceEnd>
+    requires going { core.old.ended ≡ None }
+    requires unhalted { crew.old.halt ≡ None }
+    requires known { AreOf (rows_in kinds.now) (within_of crew.old) }
+    requires waits { Waits core.old }
+    requires underway { (S : Setting) × (log : List LogEntry)
+        × GoesOn S core.old log crew.old waiting.old
+        × AreLinksOpen S (F.Fleet.open_links fleet.old) }
+    ensures count { F.Fleet.faults fleet.old ≤ F.Fleet.faults fleet.new }
+    ensures same_count { F.Fleet.started fleet.new ≡ F.Fleet.started fleet.old }
+    ensures same_links { F.Fleet.open_links fleet.new ≡ F.Fleet.open_links fleet.old }
+    ensures turned { GrowsBy F.Fleet.log F.Fleet.faults fleet.old fleet.new
+        (λ entries risen. TurnsAs result entries risen core.old crew.old waiting.old core.new
+        crew.new waiting.new) }
+    ensures batch { GainsBatch core.old core.new }
+    ensures shown { O.looks onlooker.old core.new.plan
+        (drop (length core.old.entries) core.new.entries) true onlooker.new }
+    ensures waits { OnOk result (Waits core.new) }
+    ensures rising { RisesOn (F.Fleet.log fleet.old) (F.Fleet.log fleet.new) }
+    ensures still { IsStill crew.old crew.new }
+    ensures unhalted { OnOk result (crew.new.halt ≡ None) }
+    ensures on_tempo { IsOnTempo waiting.old waiting.new }
+{
+    let shown = core.journal().entries.len();
+    let result = go_on(core, crew, waiting, fleet, kinds);
+    show(onlooker, core.plan(), core.journal(), shown, true);
+    result
+}
+
+// Asks whoever is ready at first, and shows the whole journal.
+fn begin<O: Onlooker>(
+    core: &mut Core,
+    waiting: &mut Waiting,
+    onlooker: &mut O,
+) -> Result<(), Outcome>
+    requires going { core.old.ended ≡ None }
+    requires underway { (S : Setting) × (log : List LogEntry) × (C : CrewSeen)
+        × GoesOn S core.old log C waiting.old }
+    ensures asked { AsksAs result core.old waiting.old core.new waiting.new }
+    ensures items { GainsItems core.old core.new }
+    ensures shown { O.looks onlooker.old core.new.plan (drop 0 core.new.entries) true onlooker.new }
+    ensures on_tempo { IsOnTempo waiting.old waiting.new }
+{
+    let result = ask_all(core, waiting);
+    show(onlooker, core.plan(), core.journal(), 0, true);
+    result
+}
+
 /// Goes on until the first end: what is due is sent, and no Step before its moment; where nothing
-/// comes, the fleet sleeps, 5 milliseconds at most. The clock doesn't go back.
-pub fn drive<F: Paced, R: Wait>(
+/// comes, the fleet sleeps, 5 milliseconds at most. The clock doesn't go back. Whatever is in the
+/// journal has been shown whenever the fleet sleeps, and at the end.
+pub fn drive<F: Paced, R: Wait, O: Onlooker>(
     rt: &R,
     core: &mut Core,
     crew: &mut Crew,
     waiting: &mut Waiting,
     fleet: &mut F,
     kinds: &Registry,
+    onlooker: &mut O,
 ) -> PaceEnd
     requires going { core.old.ended ≡ None }
     requires unhalted { crew.old.halt ≡ None }
@@ -286,12 +386,18 @@ pub fn drive<F: Paced, R: Wait>(
     ensures ended { GrowsBy F.Fleet.log F.Fleet.faults fleet.old fleet.new
         (λ entries risen. TurnsAs (Err result) entries risen core.old crew.old waiting.old core.new
         crew.new waiting.new) }
+    ensures shown { IsShown O.looks core.new.plan true core.old.entries core.new.entries
+        onlooker.old onlooker.new }
+    ensures same_plan { core.new.plan ≡ core.old.plan }
     ensures rising { RisesOn (F.Fleet.log fleet.old) (F.Fleet.log fleet.new) }
     ensures still { IsStill crew.old crew.new }
     ensures on_tempo { IsOnTempo waiting.old waiting.new }
 {
+    if let Err(end) = begin(core, waiting, onlooker) {
+        return PaceEnd::Outcome(end);
+    }
     for _ in rt.forever() {
-        match turn(core, crew, waiting, fleet, kinds) {
+        match turn(core, crew, waiting, fleet, kinds, onlooker) {
             Ok(()) => {}
             Err(end) => return end,
         }

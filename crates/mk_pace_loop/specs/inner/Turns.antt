@@ -12,6 +12,7 @@ use Rattle.mk_outside.specs.Logs.{greatest_told}
 use Rattle.mk_local.specs.Simulators.{Simulator}
 use Rattle.mk_sched.specs.Cores.{CoreState}
 use Rattle.mk_sched.specs.Answers.{SomeOpen, SomeReady}
+use Rattle.mk_onlooker.specs.Showings.{AddsBatch, AddsItems}
 use Rattle.mk_run_laws.specs.Crews.{CrewState, IsHeard}
 use Rattle.mk_run_links.specs.Entries.{AreOfLinks, IsRunLink}
 use Rattle.mk_run_local.specs.Calls.{IsFitSuccess}
@@ -61,6 +62,16 @@ pub record HasMet (S : Setting) (P : Plan) (J : List Entry) (log : List LogEntry
 abbrev pub IsPast : Setting → CoreState → List LogEntry → SimNo → Message → CrewSeen → WaitingSeen
     → Type 0
 IsPast S core log sim m C W = HasMet S core.plan core.entries log sim.0 m (crew_of C) C.sims W
+
+-- the core has its plan still, and items besides in its journal
+pub record GainsItems (old new : CoreState) : Type 0 where
+  pub plan : new.plan ≡ old.plan
+  pub items : AddsItems old.entries new.entries
+
+-- the core has its plan still, and a batch besides in its journal
+pub record GainsBatch (old new : CoreState) : Type 0 where
+  pub plan : new.plan ≡ old.plan
+  pub batch : AddsBatch old.entries new.entries
 
 -- whoever was ready was asked, and what he is to be sent waits; or the run came to an end
 abbrev pub AsksAs : Result (Unit {0}) Outcome → CoreState → WaitingSeen → CoreState → WaitingSeen

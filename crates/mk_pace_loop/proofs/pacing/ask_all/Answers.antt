@@ -17,11 +17,12 @@ use Rattle.mk_run.specs.declared.outcome.Outcome.TheVariants as outcome
 use Rattle.mk_pace_loop.proofs.Answering.{asked_mem}
 use Rattle.mk_pace_loop.proofs.Asking.{asked_ends, asked_low, asked_on, asked_sized, asked_time}
 use Rattle.mk_pace_loop.proofs.Ending.{done_ends, full_ends, mem_ends}
+use Rattle.mk_pace_loop.proofs.Gaining.{gains_more, memory_gains, next_gains, nothing_gained}
 use Rattle.mk_pace_loop.proofs.Turning.{on_tempo, same_tempo}
 use Rattle.mk_pace_loop.proofs.pacing.ask_all.Goals as goal
 
 pub asking-init : goal.asking-init
-asking-init c = record { going = c.requires.going; tempo = same_tempo c.args.waiting.now; goes = λ S log C u. u }
+asking-init c = record { going = c.requires.going; gained = nothing_gained c.args.core.now; tempo = same_tempo c.args.waiting.now; goes = λ S log C u. u }
 
 pub returns-in_err-sim-clause-asked : goal.returns-in_err-sim-clause-asked
 returns-in_err-sim-clause-asked c =
@@ -59,6 +60,7 @@ asking-preserved c =
     let held = c.in_ok-hold_last-in-Ask.ensures in
     record {
       going = ap (λ (k : CoreState). k.ended) a.moved;
+      gained = gains_more c.args.core.now c.asking.core c.next.new.self so_far.gained (next_gains c.asking.core c.next.new.self c.in_ok-sim.field-0 c.in_ok-sim.ensures.ok);
       tempo = on_tempo c.args.waiting.now c.asking.waiting c.hold_last.new.waiting so_far.tempo held.on_tempo;
       goes = λ S log C u.
           let v = so_far.goes S log C u in
@@ -89,3 +91,18 @@ returns-in-Done-clause-asked c =
 
 pub returns-in-Fault-clause-asked : goal.returns-in-Fault-clause-asked
 returns-in-Fault-clause-asked c = λ S log C u. full_ends S c.asking.core c.next.new.self log C c.asking.waiting (c.asking.invariant.goes S log C u) c.in-Fault.fault c.asking.invariant.going (subst (λ (n : Next). NextOf c.asking.core n c.next.new.self) c.in-Fault.is c.in_ok-sim.ensures.ok)
+
+pub returns-in_err-sim-clause-items : goal.returns-in_err-sim-clause-items
+returns-in_err-sim-clause-items c = gains_more c.args.core.now c.asking.core c.next.new.self c.asking.invariant.gained (memory_gains c.asking.core c.next.new.self c.in_err-sim.ensures.err)
+
+pub returns-in_err-hold_last-in-Ask-clause-items : goal.returns-in_err-hold_last-in-Ask-clause-items
+returns-in_err-hold_last-in-Ask-clause-items c = gains_more c.args.core.now c.asking.core c.next.new.self c.asking.invariant.gained (next_gains c.asking.core c.next.new.self c.in_ok-sim.field-0 c.in_ok-sim.ensures.ok)
+
+pub returns-in-Wait-clause-items : goal.returns-in-Wait-clause-items
+returns-in-Wait-clause-items c = gains_more c.args.core.now c.asking.core c.next.new.self c.asking.invariant.gained (next_gains c.asking.core c.next.new.self c.in_ok-sim.field-0 c.in_ok-sim.ensures.ok)
+
+pub returns-in-Done-clause-items : goal.returns-in-Done-clause-items
+returns-in-Done-clause-items c = gains_more c.args.core.now c.asking.core c.next.new.self c.asking.invariant.gained (next_gains c.asking.core c.next.new.self c.in_ok-sim.field-0 c.in_ok-sim.ensures.ok)
+
+pub returns-in-Fault-clause-items : goal.returns-in-Fault-clause-items
+returns-in-Fault-clause-items c = gains_more c.args.core.now c.asking.core c.next.new.self c.asking.invariant.gained (next_gains c.asking.core c.next.new.self c.in_ok-sim.field-0 c.in_ok-sim.ensures.ok)

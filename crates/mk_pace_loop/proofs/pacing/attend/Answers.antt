@@ -15,6 +15,7 @@ use Rattle.mk_run_crew.specs.Calls.{TriesAs}
 use Rattle.mk_run_crew.specs.Seen.{crew_of}
 use Rattle.mk_run.specs.declared.outcome.Outcome.{Outcome}
 use Rattle.mk_pace_loop.specs.inner.Turns.{AttendsAs}
+use Rattle.mk_pace_loop.proofs.Gaining.{nothing_heard}
 use Rattle.mk_pace_loop.proofs.Risen.{clockless_rises, rises_on}
 use Rattle.mk_pace_loop.proofs.Turning.{heard_attends, met_form, met_it, met_there, napped, napped_rises, unheard_attends}
 use Rattle.mk_pace_loop.proofs.pacing.attend.Goals as goal
@@ -97,3 +98,9 @@ returns-in-Err-clause-attended g c =
 
 pub returns-in-Err-clause-rising : goal.returns-in-Err-clause-rising
 returns-in-Err-clause-rising g c = let h = c.in-Err.ensures.tried c.requires.unhalted in clockless_rises h.0 _ _ (no_clock (IsChannelLink c.args.crew.now.channels) h.0 h.2.1) h.1
+
+pub returns-in-Ok-None-clause-batch : goal.returns-in-Ok-None-clause-batch
+returns-in-Ok-None-clause-batch g c = nothing_heard c.args.core.now
+
+pub returns-in-Err-clause-batch : goal.returns-in-Err-clause-batch
+returns-in-Err-clause-batch g c = nothing_heard c.args.core.now

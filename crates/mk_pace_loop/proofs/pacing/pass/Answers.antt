@@ -5,6 +5,7 @@ use Rattle.mk_outside.specs.Counts.{HasRisen}
 use Rattle.mk_outside.proofs.OnLogs.{adds_none}
 use Rattle.mk_pace_laws.specs.declared.end.PaceEnd.{PaceEnd}
 use Rattle.mk_pace_loop.specs.inner.Turns.{PassesAs}
+use Rattle.mk_pace_loop.proofs.Gaining.{nothing_heard}
 use Rattle.mk_pace_loop.proofs.Risen.{rises_none}
 use Rattle.mk_pace_loop.proofs.Turning.{are_open, on_tempo, passed, passed_end, still_on, unsent_end}
 use Rattle.mk_pace_loop.proofs.pacing.pass.Goals as goal
@@ -52,3 +53,6 @@ returns-in-Ok-clause-on_tempo g c = on_tempo c.args.waiting.now c.send_due.new.w
 
 pub returns-in-Err-clause-on_tempo : goal.returns-in-Err-clause-on_tempo
 returns-in-Err-clause-on_tempo g c = on_tempo c.args.waiting.now c.send_due.new.waiting c.attend.new.waiting c.in_ok-send_due.ensures.on_tempo c.in-Err.ensures.on_tempo
+
+pub returns-in_err-send_due-clause-batch : goal.returns-in_err-send_due-clause-batch
+returns-in_err-send_due-clause-batch g c = nothing_heard c.args.core.now

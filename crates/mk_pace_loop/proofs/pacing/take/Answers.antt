@@ -8,6 +8,7 @@ use Rattle.mk_run.specs.declared.outcome.Outcome.{Outcome}
 use Rattle.mk_pace_loop.specs.inner.Turns.{TakesAs}
 use Rattle.mk_pace_loop.proofs.Answering.{answered_so, can_answer, owed_ends, owed_low, owed_sized, owed_time, quiet_goes}
 use Rattle.mk_pace_loop.proofs.Untaken.{fault_ends, untaken_for_memory}
+use Rattle.mk_pace_loop.proofs.Gaining.{items_gained, memory_gains, take_gains}
 use Rattle.mk_pace_loop.proofs.pacing.take.Goals as goal
 
 pub returns-in_err-take-clause-taken : goal.returns-in_err-take-clause-taken
@@ -58,3 +59,15 @@ returns-in-Send-clause-taken g c =
 pub returns-in-Fault-clause-taken : goal.returns-in-Fault-clause-taken
 returns-in-Fault-clause-taken g c = λ S log h. fault_ends S c.args.core.now log c.args.sim c.args.message c.args.crew.now c.args.waiting.now h c.take.new.self c.in-Fault.fault c.requires.going c.take.ensures.stands
     (subst (λ (n : Taken). ArriveOf c.args.core.now c.args.sim c.args.message n c.take.new.self) c.in-Fault.is c.in_ok-take.ensures.ok)
+
+pub returns-in_err-take-clause-batch : goal.returns-in_err-take-clause-batch
+returns-in_err-take-clause-batch g c = items_gained c.args.core.now c.take.new.self (memory_gains c.args.core.now c.take.new.self c.in_err-take.ensures.err)
+
+pub returns-in-Quiet-clause-batch : goal.returns-in-Quiet-clause-batch
+returns-in-Quiet-clause-batch g c = take_gains c.args.core.now c.take.new.self c.args.sim c.args.message c.in_ok-take.field-0 c.in_ok-take.ensures.ok
+
+pub returns-in-Send-clause-batch : goal.returns-in-Send-clause-batch
+returns-in-Send-clause-batch g c = take_gains c.args.core.now c.take.new.self c.args.sim c.args.message c.in_ok-take.field-0 c.in_ok-take.ensures.ok
+
+pub returns-in-Fault-clause-batch : goal.returns-in-Fault-clause-batch
+returns-in-Fault-clause-batch g c = take_gains c.args.core.now c.take.new.self c.args.sim c.args.message c.in_ok-take.field-0 c.in_ok-take.ensures.ok
