@@ -21,6 +21,16 @@ pub fn write_anew<R: Files + AllocGlobal>(rt: &R, name: &str, bytes: &[u8]) -> i
     }
 }
 
+/// Makes an empty file beside the one of this name, which need not be there, and gives its path too. It has the other
+/// one's rights. It is an error where the other one may not be written or is no regular file.
+pub fn open_beside<R: Files + AllocGlobal>(rt: &R, name: &str) -> io::Result<(String, R::File)> {
+    let mut path = PathBuf::from_str(rt.alloc(), name)?;
+    match follow_all(rt, &mut path)? {
+        There::File => begin_part(rt, path.as_str()),
+        There::Link | There::Other => Err(io::Error::from(ErrorKind::Unsupported)),
+    }
+}
+
 // What stands at a path.
 #[derive(Clone, Copy)]
 enum There {
@@ -66,9 +76,8 @@ fn follow_all<R: Files + AllocGlobal>(rt: &R, path: &mut PathBuf) -> io::Result<
 
 // Puts a file with these bytes and the old one's rights in the place of the file at this path.
 fn replace<R: Files + AllocGlobal>(rt: &R, path: &str, bytes: &[u8]) -> io::Result<()> {
-    let rights = rights_of(rt, path)?;
-    let (part, mut file) = open_part(rt, path)?;
-    let placed = place(rt, part.as_str(), &mut file, rights, bytes, path);
+    let (part, mut file) = begin_part(rt, path)?;
+    let placed = place(rt, part.as_str(), &mut file, bytes, path);
     if placed.is_ok() {
         // the file has its name by now, so this changes no answer
         let _ = sync_folder(rt, path);
@@ -78,19 +87,36 @@ fn replace<R: Files + AllocGlobal>(rt: &R, path: &str, bytes: &[u8]) -> io::Resu
     placed
 }
 
-// Gives a new file, which has the name of a part, its rights and its bytes, waits until they are on the disk, and puts
-// it at this path.
+// Makes an empty file beside the one at this path, with its rights.
+fn begin_part<R: Files + AllocGlobal>(rt: &R, path: &str) -> io::Result<(String, R::File)> {
+    let rights = rights_of(rt, path)?;
+    let (part, file) = open_part(rt, path)?;
+    match give_rights(&file, rights) {
+        Ok(()) => Ok((part, file)),
+        Err(e) => {
+            let _ = fs::remove_file(rt, part.as_str());
+            Err(e)
+        }
+    }
+}
+
+// Gives a file these rights, if there are any.
+fn give_rights<F: OpenFile>(file: &F, rights: Option<Permissions>) -> io::Result<()> {
+    match rights {
+        Some(rights) => file.set_permissions(rights),
+        None => Ok(()),
+    }
+}
+
+// Gives a new file, which has the name of a part, its bytes, waits until they are on the disk, and puts it at this
+// path.
 fn place<R: Files>(
     rt: &R,
     part: &str,
     file: &mut R::File,
-    rights: Option<Permissions>,
     bytes: &[u8],
     path: &str,
 ) -> io::Result<()> {
-    if let Some(rights) = rights {
-        file.set_permissions(rights)?;
-    }
     file.write_all(bytes)?;
     file.flush()?;
     file.sync_all()?;

@@ -2,6 +2,8 @@
 ghost use Rattle.std.specs.Prelude.{◌≡◌, ◌≢◌, IfOk};
 
 use crate::anew::write_anew;
+use crate::draft::{RealDraft, new_draft, remove_draft};
+use mk_drafts::{Begun, Drafts};
 use mk_outside::{FILE_LIMIT, FileRead, FileSave, Folder};
 use std::fs::{self, Files, OpenFile};
 use std::io::{self, ErrorKind, Read};
@@ -55,6 +57,25 @@ impl<'a, R: Files + AllocGlobal> Folder for RealFolder<'a, R> {
                 FileSave::Failed
             }
         }
+    }
+}
+
+impl<'a, R: Files + AllocGlobal> Drafts for RealFolder<'a, R> {
+    type Draft = RealDraft<R::File>;
+
+    fn begin(&mut self, name: &str) -> Begun<RealDraft<R::File>> {
+        match new_draft(self.rt, name) {
+            Ok(draft) => Begun::Draft(draft),
+            Err(e) if e.kind() == ErrorKind::OutOfMemory => Begun::Mem,
+            Err(_) => {
+                self.faults = self.faults.saturating_add(1);
+                Begun::Failed
+            }
+        }
+    }
+
+    fn leave(&mut self, draft: RealDraft<R::File>) {
+        remove_draft(self.rt, draft);
     }
 }
 

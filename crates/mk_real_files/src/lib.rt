@@ -3,9 +3,12 @@
 
 mod anew;
 mod calling;
+mod draft;
 mod folder;
 mod sink;
+mod writing;
 
 pub use calling::words;
+pub use draft::RealDraft;
 pub use folder::RealFolder;
 pub use sink::RealSink;

@@ -1,8 +1,9 @@
 //! The standard streams.
-ghost use Rattle.std.specs.Prelude.{◌≡◌, ◌≤◌, IfOk, length};
+ghost use Rattle.std.specs.Prelude.{◌≡◌};
 
+use crate::writing::put;
 use mk_outside::{Sink, Wrote};
-use std::io::{self, ErrorKind, Print, Stderr, Stdout};
+use std::io::{self, Print, Stderr, Stdout, Write};
 
 // Which of them it is.
 #[derive(Clone, Copy)]
@@ -49,35 +50,24 @@ impl Sink for RealSink {
     ghost written = { λ _. None };
 
     fn put(&mut self, bytes: &[u8]) -> Wrote {
-        match self.stream.write(bytes) {
-            Ok(count) if count > 0 => Wrote::Took(count),
-            Err(e) if e.kind() == ErrorKind::OutOfMemory => {
-                self.shortages = self.shortages.saturating_add(1);
-                Wrote::Mem
-            }
-            _ => {
-                self.faults = self.faults.saturating_add(1);
-                Wrote::Failed
-            }
-        }
+        put(
+            &mut self.stream,
+            bytes,
+            &mut self.faults,
+            &mut self.shortages,
+        )
     }
 }
 
-impl Stream {
-    // One write, again where it was interrupted.
-    fn write(&self, bytes: &[u8]) -> io::Result<usize>
-        ensures { IfOk result (λ count. count ≤ length bytes.now) }
-    {
-        for _ in 0..u64::MAX {
-            let answer = match self {
-                Stream::Output(stream) => stream.write_some(bytes),
-                Stream::Error(stream) => stream.write_some(bytes),
-            };
-            match answer {
-                Err(e) if e.kind() == ErrorKind::Interrupted => {}
-                answer => return answer,
-            }
+impl Write for Stream {
+    fn write(&mut self, bytes: &[u8]) -> io::Result<usize> {
+        match self {
+            Stream::Output(stream) => stream.write_some(bytes),
+            Stream::Error(stream) => stream.write_some(bytes),
         }
-        Ok(0)
+    }
+
+    fn flush(&mut self) -> io::Result<()> {
+        Ok(())
     }
 }

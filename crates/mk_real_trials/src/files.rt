@@ -1,4 +1,7 @@
-//! Files of the system, and a standard stream.
+//! Files of the system, drafts of them, and a standard stream.
+ghost use Rattle.std.specs.Prelude.{◌≢◌, []};
+
+use mk_drafts::{Begun, Drafts};
 use mk_outside::{FileRead, FileSave, Folder, Sink, Wrote};
 use mk_real_files::{RealFolder, RealSink};
 use std::alloc::{AllocGlobal, Global};
@@ -110,4 +113,64 @@ fn is_long_left<R: Files + AllocGlobal>(rt: &R) -> bool {
 #[test]
 fn leaves_the_old_file_where_a_save_fails(rt: HostRuntime) {
     assert!(rt; is_long_left(&rt));
+}
+
+// Whether a draft of the file of this name is begun, takes this piece, and is dropped then.
+fn is_drafted<R: Files + AllocGlobal>(rt: &R, name: &str, piece: &[u8]) -> bool
+    requires { piece.now ≢ [] }
+{
+    match RealFolder::new(rt).begin(name) {
+        Begun::Draft(mut draft) => draft.put(piece) == Wrote::Took(piece.len()),
+        _ => false,
+    }
+}
+
+// Whether a file of this name is there with these bytes; it is removed then.
+fn is_taken_away<R: Files + AllocGlobal>(rt: &R, name: &str, bytes: &[u8]) -> bool {
+    let mut folder = RealFolder::new(rt);
+    let whole = is_read(rt.alloc(), &mut folder, name, FileRead::Whole, bytes);
+    fs::remove_file(rt, name).is_ok() && whole
+}
+
+#[test]
+fn a_draft_lies_beside_its_file(rt: HostRuntime) {
+    let first = is_drafted(&rt, "drafted-by-a-test", b"some\n");
+    let second = is_drafted(&rt, "drafted-by-a-test", b"more\n");
+    let first = is_taken_away(&rt, "drafted-by-a-test.part", b"some\n") && first;
+    let second = is_taken_away(&rt, "drafted-by-a-test.part2", b"more\n") && second;
+    assert!(rt; first && second && is_missing(&rt, "drafted-by-a-test"));
+}
+
+#[test]
+fn a_draft_lies_where_a_link_leads(rt: HostRuntime) {
+    let link = "link-of-a-draft";
+    let made = unix::symlink(&rt, "end-of-a-link", link).is_ok();
+    let drafted = is_drafted(&rt, link, b"some\n");
+    let there = is_taken_away(&rt, "end-of-a-link.part", b"some\n");
+    assert!(rt; fs::remove_file(&rt, link).is_ok() && made && drafted && there);
+}
+
+// Whether a draft is begun, grows by pieces, and is left.
+fn is_left_again<R: Files + AllocGlobal>(rt: &R) -> bool {
+    let mut folder = RealFolder::new(rt);
+    let Begun::Draft(mut draft) = folder.begin("left-by-a-test") else {
+        return false;
+    };
+    let part = "left-by-a-test.part";
+    let grown = draft.put(b"so") == Wrote::Took(2)
+        && draft.put(b"me\n") == Wrote::Took(3)
+        && is_read(rt.alloc(), &mut folder, part, FileRead::Whole, b"some\n");
+    folder.leave(draft);
+    grown && is_missing(rt, part)
+}
+
+#[test]
+fn leaves_a_draft(rt: HostRuntime) {
+    assert!(rt; is_left_again(&rt));
+}
+
+#[test]
+fn what_is_no_file_has_no_draft(rt: HostRuntime) {
+    let mut folder = RealFolder::new(&rt);
+    assert!(rt; matches!(folder.begin("/dev/null"), Begun::Failed));
 }
