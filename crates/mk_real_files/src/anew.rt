@@ -108,7 +108,8 @@ fn give_rights<F: OpenFile>(file: &F, rights: Option<Permissions>) -> io::Result
     }
 }
 
-// Gives a new file, which has the name of a part, its bytes, waits until they are on the disk, and puts it at this path.
+// Gives a new file, which has the name of a part, its bytes, waits until they are on the disk, and puts it at this
+// path.
 fn place<R: Files>(
     rt: &R,
     part: &str,
