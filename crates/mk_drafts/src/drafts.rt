@@ -19,8 +19,8 @@ pub trait Drafts: Folder {
     /// of the folder's files. It stays there when it is dropped. It counts its own faults.
     type Draft: Sink + Drop;
 
-    /// Begins an empty draft of the file of this name, which need not be there. It is `Failed` also where no draft can
-    /// lie beside the file, as beside a pipe.
+    /// Begins an empty draft of the file of this name, which need not be there. Where no file can lie beside it, as
+    /// beside a pipe, the draft takes nothing.
     fn begin(&mut self, name: &str) -> Begun<Self::Draft>
         ensures count { Self.faults self.old ≤ Self.faults self.new }
         ensures cause { result ≡ Begun.Failed → HasRisen (Self.faults self.old) (Self.faults self.new) }

@@ -22,12 +22,18 @@ pub fn write_anew<R: Files + AllocGlobal>(rt: &R, name: &str, bytes: &[u8]) -> i
 }
 
 /// Makes an empty file beside the one of this name, which need not be there, and gives its path too. It has the other
-/// one's rights. It is an error where the other one may not be written or is no regular file.
-pub fn open_beside<R: Files + AllocGlobal>(rt: &R, name: &str) -> io::Result<(String, R::File)> {
+/// one's rights. There is none where the other one is no regular file. It is an error where it may not be written.
+pub fn open_beside<R: Files + AllocGlobal>(
+    rt: &R,
+    name: &str,
+) -> io::Result<(String, Option<R::File>)> {
     let mut path = PathBuf::from_str(rt.alloc(), name)?;
     match follow_all(rt, &mut path)? {
-        There::File => begin_part(rt, path.as_str()),
-        There::Link | There::Other => Err(io::Error::from(ErrorKind::Unsupported)),
+        There::File => {
+            let (part, file) = begin_part(rt, path.as_str())?;
+            Ok((part, Some(file)))
+        }
+        There::Link | There::Other => Ok((String::new(rt.alloc()), None)),
     }
 }
 

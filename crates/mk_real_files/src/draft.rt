@@ -9,11 +9,12 @@ use std::fs::{self, Files};
 use std::io::{self, Write};
 
 /// A file beside the one that it is for. Each piece is handed to the system at once; nothing waits until it is on the
-/// disk. It tells nothing of what it took, and counts the calls that answer `Failed` in its faults, and those that
-/// answer `Mem` in its shortages.
+/// disk. A name of something else than a file, as of a pipe, has a draft that is no file and takes nothing. It tells
+/// nothing of what it took, and counts the calls that answer `Failed` in its faults, and those that answer `Mem` in its
+/// shortages.
 #[derive(Drop)]
 pub struct RealDraft<F> {
-    file: F,
+    file: Option<F>,
     path: String,
     faults: u64,
     shortages: u64,
@@ -32,7 +33,9 @@ pub fn new_draft<R: Files + AllocGlobal>(rt: &R, name: &str) -> io::Result<RealD
 
 // Removes a draft. Where that fails it stays.
 pub fn remove_draft<R: Files>(rt: &R, draft: RealDraft<R::File>) {
-    let _ = fs::remove_file(rt, draft.path.as_str());
+    if draft.file.is_some() {
+        let _ = fs::remove_file(rt, draft.path.as_str());
+    }
 }
 
 impl<F: Write> Sink for RealDraft<F> {
@@ -45,6 +48,12 @@ impl<F: Write> Sink for RealDraft<F> {
     ghost written = { λ _. None };
 
     fn put(&mut self, bytes: &[u8]) -> Wrote {
-        put(&mut self.file, bytes, &mut self.faults, &mut self.shortages)
+        match &mut self.file {
+            Some(file) => put(file, bytes, &mut self.faults, &mut self.shortages),
+            None => {
+                self.faults = self.faults.saturating_add(1);
+                Wrote::Failed
+            }
+        }
     }
 }

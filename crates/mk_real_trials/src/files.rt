@@ -169,8 +169,18 @@ fn leaves_a_draft(rt: HostRuntime) {
     assert!(rt; is_left_again(&rt));
 }
 
+// Whether a draft of this name is begun, refuses a piece, and is left.
+fn is_refused<R: Files + AllocGlobal>(rt: &R, name: &str) -> bool {
+    let mut folder = RealFolder::new(rt);
+    let Begun::Draft(mut draft) = folder.begin(name) else {
+        return false;
+    };
+    let refused = draft.put(b"some\n") == Wrote::Failed;
+    folder.leave(draft);
+    refused
+}
+
 #[test]
-fn what_is_no_file_has_no_draft(rt: HostRuntime) {
-    let mut folder = RealFolder::new(&rt);
-    assert!(rt; matches!(folder.begin("/dev/null"), Begun::Failed));
+fn what_is_no_file_has_a_draft_that_takes_nothing(rt: HostRuntime) {
+    assert!(rt; is_refused(&rt, "/dev/null"));
 }

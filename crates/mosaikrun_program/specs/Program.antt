@@ -20,7 +20,7 @@ pub record IsMisused (S : Around) (e : Ending) : Type 0 where
   pub cause : IsUnasked S.words e
   pub untouched : IsUntouched S
 
--- a file isn't read
+-- a file isn't read, or the folder failed before anything was run
 pub record IsUnread (S : Around) (e : Ending) : Type 0 where
   pub request : Request
   pub asked : IsAsked S.words request

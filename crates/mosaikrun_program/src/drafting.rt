@@ -1,5 +1,6 @@
 //! The draft of a run's record: begun before the run, and taken away once the record is saved.
-ghost use Rattle.std.specs.Prelude.{◌≡◌, ◌≤◌, option_map};
+ghost use Rattle.std.specs.Prelude.{◌≡◌, ◌≤◌, IfErr, IfOk, option_map};
+ghost use Rattle.mosaikrun_endings.specs.declared.ending.Ending.TheVariants as ends;
 ghost use Rattle.mk_outside.specs.Counts.{HasRisen};
 ghost use Rattle.mk_outside.specs.Folders.{after_save};
 ghost use Rattle.mk_scribe.specs.Desks.{IsNew, desk_of};
@@ -8,21 +9,31 @@ use mk_base::Text;
 use mk_drafts::{Begun, Drafts};
 use mk_outside::FileSave;
 use mk_scribe::Scribe;
+use mosaikrun_endings::Ending;
 use std::alloc::Global;
 
-// Who writes the record of a run while it goes: into a draft of the file of this name. Without a name, or where the
-// folder begins no draft, nothing is written until the run is over.
-pub fn scribe_for<D: Drafts>(alloc: Global, folder: &mut D, name: &Option<Text>) -> Scribe<D::Draft>
-    ensures new { IsNew (desk_of D.Draft.written D.Draft.faults D.Draft.shortages result) }
+// Who writes the record of a run while it goes: into a draft of the file of this name, if there is one. Where the
+// folder can't begin a draft, it won't save a record either, so nothing is to be run. Where memory was wanting for a
+// draft, the record is saved once the run is over.
+pub fn scribe_for<D: Drafts>(
+    alloc: Global,
+    folder: &mut D,
+    name: &Option<Text>,
+) -> Result<Scribe<D::Draft>, Ending>
+    ensures new { IfOk result
+        (λ scribe. IsNew (desk_of D.Draft.written D.Draft.faults D.Draft.shortages scribe)) }
+    ensures unbegun { IfErr result (λ e. (e ≡ ends.Folder)
+        × HasRisen (D.faults folder.old) (D.faults folder.new)) }
     ensures kept { D.files folder.new ≡ D.files folder.old }
     ensures count { D.faults folder.old ≤ D.faults folder.new }
 {
     match name {
         Some(name) => match folder.begin(name.as_str()) {
-            Begun::Draft(draft) => Scribe::new(alloc, Some(draft)),
-            Begun::Failed | Begun::Mem => Scribe::new(alloc, None),
+            Begun::Draft(draft) => Ok(Scribe::new(alloc, Some(draft))),
+            Begun::Failed => Err(Ending::Folder),
+            Begun::Mem => Ok(Scribe::new(alloc, None)),
         },
-        None => Scribe::new(alloc, None),
+        None => Ok(Scribe::new(alloc, None)),
     }
 }
 

@@ -292,7 +292,7 @@ fn play<D: Drafts, F: Fleet, K: Sink, R: Wait>(
     ensures out_count { K.faults out.old ≤ K.faults out.new }
 {
     let bytes = file_bytes(alloc, folder, scenario)?;
-    let mut scribe = scribe_for(alloc, folder, name);
+    let mut scribe = scribe_for(alloc, folder, name)?;
     let told = ran(
         rt,
         alloc,
@@ -333,7 +333,7 @@ fn carry_on<D: Drafts, F: Fleet, K: Sink, R: Wait>(
     let bytes = file_bytes(alloc, folder, scenario)?;
     let study = study_of(alloc, kinds, bytes.as_slice())?;
     let old = record_bytes(alloc, folder, recorded)?;
-    let mut scribe = scribe_for(alloc, folder, name);
+    let mut scribe = scribe_for(alloc, folder, name)?;
     let told = resumed(
         rt,
         alloc,
@@ -378,7 +378,7 @@ fn pace<D: Drafts, F: Paced, K: Sink, R: Wait>(
     ensures out_count { K.faults out.old ≤ K.faults out.new }
 {
     let bytes = file_bytes(alloc, folder, scenario)?;
-    let mut scribe = scribe_for(alloc, folder, name);
+    let mut scribe = scribe_for(alloc, folder, name)?;
     let told = paced_ran(
         rt,
         alloc,

@@ -97,7 +97,7 @@ pub returns-clause-carried : goal.returns-clause-carried
 returns-clause-carried g c = λ words rules asked.
     let kept = option_map (λ r. r.items) c.resumed-told.result.record_text in
     let name = c.args.name.now in
-    let mid = folder_seen g.D.Folder.files g.D.Folder.faults c.scribe_for-scribe.new.folder c.hand_out.new.folder in
+    let mid = folder_seen g.D.Folder.files g.D.Folder.faults c.scribe_for.new.folder c.hand_out.new.folder in
     let out = output_seen g.K.Sink.written g.K.Sink.faults g.K.Sink.shortages c.args.out.now c.hand_out.new.out in
     let scenario = c.in_ok-study.study.scenario in
     let ranks = c.in_ok-study.study.ranks in
@@ -129,7 +129,7 @@ returns-clause-carried g c = λ words rules asked.
       came.0,
       came.1,
       gone_on S c.args.scenario.now c.args.recorded.now name asked c.hand_out.result bytes old c.in_ok-bytes.ensures.read too study text kept outcome
-          (answered_since S.folder mid.files mid.faults (c.scribe_for-scribe.ensures.kept ∙ (c.record_bytes.ensures.kept ∙ c.file_bytes.ensures.kept)) (low (low c.file_bytes.ensures.count c.record_bytes.ensures.count) c.scribe_for-scribe.ensures.count) out name text kept c.hand_out.result told.2),
+          (answered_since S.folder mid.files mid.faults (c.scribe_for.ensures.kept ∙ (c.record_bytes.ensures.kept ∙ c.file_bytes.ensures.kept)) (low (low c.file_bytes.ensures.count c.record_bytes.ensures.count) c.scribe_for.ensures.count) out name text kept c.hand_out.result told.2),
     )
 
 -- nothing is done with the fleet where no simulator has a link
@@ -137,3 +137,35 @@ pub returns-clause-within : goal.returns-clause-within
 returns-clause-within g c =
     does_nothing (g.D.Folder.files c.args.folder.now) c.args.scenario.now c.in_ok-bytes.bytes.items c.as_slice.result.now c.in_ok-bytes.ensures.read c.as_slice.ensures.value
     (λ S read within. c.resumed-told.ensures.within (within_also S c.in_ok-study.study.scenario c.as_slice.result.now read c.in_ok-study.ensures.read within))
+
+-- no draft of its record can be begun
+pub returns-in_err-scribe-clause-carried : goal.returns-in_err-scribe-clause-carried
+returns-in_err-scribe-clause-carried g c = λ words rules asked.
+    let S : Around = record {
+      words = words;
+      outside = outside g.F.Fleet.started g.F.Fleet.faults (rows_in c.args.kinds.now) c.args.fleet.now c.args.fleet.now [];
+      rules = rules;
+      folder = folder_seen g.D.Folder.files g.D.Folder.faults c.args.folder.now c.scribe_for.new.folder;
+      output = output_seen g.K.Sink.written g.K.Sink.faults g.K.Sink.shortages c.args.out.now c.args.out.now;
+    } in
+    let e = err_from_is_err_and c.from_residual-in_err-scribe.result c.from_residual-in_err-scribe.ensures.1 in
+    let failed = c.in_err-scribe.ensures.unbegun in (
+      [],
+      adds_none (g.F.Fleet.log c.args.fleet.now),
+      subst (λ (r : Result (Unit {0}) Ending). EndedAs S r) (sym (e.1 ∙ ap (λ x. Err x) e.2)) (inr (inl (record {
+        request = Resume c.args.scenario.now c.args.recorded.now c.args.name.now;
+        asked = asked;
+        stuck = record {
+          read = [];
+          held = tt;
+          on = tt;
+          name = c.args.scenario.now;
+          next = refl;
+          cause = inr (inl (
+            failed.0,
+            risen_after S.folder.faults (g.D.Folder.faults c.record_bytes.new.folder) S.folder.new_faults (low c.file_bytes.ensures.count c.record_bytes.ensures.count) failed.1,
+          ));
+        };
+        untouched = record { unput = refl; unsaved = c.scribe_for.ensures.kept ∙ (c.record_bytes.ensures.kept ∙ c.file_bytes.ensures.kept); log = refl; faults = refl };
+      }))),
+    )

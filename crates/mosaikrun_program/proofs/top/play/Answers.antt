@@ -12,6 +12,7 @@ use Rattle.mosaikrun_program.specs.Around.{Around, folder_seen, output_seen}
 use Rattle.mosaikrun_program.specs.Running.{RunAnswer}
 use Rattle.mosaikrun_program.specs.Program.{EndedAs}
 use Rattle.mosaikrun_program.proofs.Fleetless.{does_nothing}
+use Rattle.mk_session.proofs.Polling.{risen_after}
 use Rattle.mosaikrun_program.proofs.CarryingOn.{low}
 use Rattle.mosaikrun_program.proofs.Playing.{answered_since, either, is_run, performed}
 use Rattle.mosaikrun_program.proofs.top.play.Goals as goal
@@ -42,7 +43,7 @@ pub returns-clause-played : goal.returns-clause-played
 returns-clause-played g c = λ words rules asked.
     let kept = option_map (λ r. r.items) c.ran-told.result.record_text in
     let name = c.args.name.now in
-    let mid = folder_seen g.D.Folder.files g.D.Folder.faults c.scribe_for-scribe.new.folder c.hand_out.new.folder in
+    let mid = folder_seen g.D.Folder.files g.D.Folder.faults c.scribe_for.new.folder c.hand_out.new.folder in
     let out = output_seen g.K.Sink.written g.K.Sink.faults g.K.Sink.shortages c.args.out.now c.hand_out.new.out in
     let Q : Result (List ℕ) Ending → Type 0 = λ text. (entries : List LogEntry) × Adds entries (g.F.Fleet.log c.args.fleet.now) (g.F.Fleet.log c.ran-told.new.fleet)
     × IsRunOutcome (outside g.F.Fleet.started g.F.Fleet.faults (rows_in c.args.kinds.now) c.args.fleet.now c.ran-told.new.fleet entries)
@@ -71,7 +72,7 @@ returns-clause-played g c = λ words rules asked.
           text = text;
           kept = kept;
           outcome = outcome;
-          ended = answered_since S.folder mid.files mid.faults (c.scribe_for-scribe.ensures.kept ∙ c.file_bytes.ensures.kept) (low c.file_bytes.ensures.count c.scribe_for-scribe.ensures.count) out name text kept c.hand_out.result told.2;
+          ended = answered_since S.folder mid.files mid.faults (c.scribe_for.ensures.kept ∙ c.file_bytes.ensures.kept) (low c.file_bytes.ensures.count c.scribe_for.ensures.count) out name text kept c.hand_out.result told.2;
         });
       })),
     )
@@ -79,3 +80,32 @@ returns-clause-played g c = λ words rules asked.
 -- nothing is done with the fleet where no simulator has a link
 pub returns-clause-within : goal.returns-clause-within
 returns-clause-within g c = does_nothing (g.D.Folder.files c.args.folder.now) c.args.scenario.now c.in_ok-bytes.bytes.items c.as_slice.result.now c.in_ok-bytes.ensures.read c.as_slice.ensures.value c.ran-told.ensures.within
+
+-- no draft of its record can be begun
+pub returns-in_err-scribe-clause-played : goal.returns-in_err-scribe-clause-played
+returns-in_err-scribe-clause-played g c = λ words rules asked.
+    let S : Around = record {
+      words = words;
+      outside = outside g.F.Fleet.started g.F.Fleet.faults (rows_in c.args.kinds.now) c.args.fleet.now c.args.fleet.now [];
+      rules = rules;
+      folder = folder_seen g.D.Folder.files g.D.Folder.faults c.args.folder.now c.scribe_for.new.folder;
+      output = output_seen g.K.Sink.written g.K.Sink.faults g.K.Sink.shortages c.args.out.now c.args.out.now;
+    } in
+    let e = err_from_is_err_and c.from_residual-in_err-scribe.result c.from_residual-in_err-scribe.ensures.1 in
+    let failed = c.in_err-scribe.ensures.unbegun in (
+      [],
+      adds_none (g.F.Fleet.log c.args.fleet.now),
+      subst (λ (r : Result (Unit {0}) Ending). EndedAs S r) (sym (e.1 ∙ ap (λ x. Err x) e.2)) (inr (inl (record {
+        request = Run c.args.scenario.now c.args.name.now;
+        asked = asked;
+        stuck = record {
+          read = [];
+          held = tt;
+          on = tt;
+          name = c.args.scenario.now;
+          next = refl;
+          cause = inr (inl (failed.0, risen_after S.folder.faults (g.D.Folder.faults c.file_bytes.new.folder) S.folder.new_faults c.file_bytes.ensures.count failed.1));
+        };
+        untouched = record { unput = refl; unsaved = c.scribe_for.ensures.kept ∙ c.file_bytes.ensures.kept; log = refl; faults = refl };
+      }))),
+    )
