@@ -1,4 +1,4 @@
-//! Records that are written while a run goes, into a sink that fails. The crate has tests alone.
+//! Records that are written while a run goes, into a sink that fails. The crate has only tests.
 #![tactic(auto)]
 
 #[cfg(test)]
