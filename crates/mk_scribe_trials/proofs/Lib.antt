@@ -1,0 +1,2 @@
+-- The lemmas of mk_scribe_trials, by their files.
+pub mod Parts
