@@ -7,7 +7,9 @@ use Rattle.std.proofs.lemmas.List.{take-append-drop}
 use Rattle.mk_base.specs.Lists.{BeginsWith}
 use Rattle.mk_base.proofs.Lists.{append_nil}
 use Rattle.mk_outside.specs.Counts.{HasRisen}
-use Rattle.mk_outside.specs.Sinks.{appended, TookBeginning}
+use Rattle.mk_outside.specs.Sinks.{TookBeginning, TookText, appended}
+use Rattle.mk_outside.specs.declared.sink.PutAll.{PutAll}
+use Rattle.mk_outside.specs.declared.sink.PutAll.TheVariants as put
 use Rattle.mk_plan.specs.declared.Plan.{Plan}
 use Rattle.mk_plan.specs.declared.Entry.{Entry}
 use Rattle.mk_record_read.specs.Entries.{entries_of}
@@ -19,7 +21,7 @@ use Rattle.mk_scribe.specs.Desks.{Closes, Makes, MakesOn}
 use Rattle.mk_scribe.specs.Drafts.{Draft, HasRefused, IsLater}
 use Rattle.mk_scribe.specs.Openings.{opening_text}
 use Rattle.mk_scribe.specs.inner.Steps.{Ends, Moves, end_line}
-use Rattle.mk_scribe.proofs.Pieces.{both_taken, front_taken, next_taken}
+use Rattle.mk_scribe.proofs.Pieces.{both_taken, none_taken, front_taken, next_taken}
 use Rattle.mk_scribe.proofs.Texts.{beginning_made, beginning_of_record, if_appended, if_told, moved, record_is}
 
 -- ---- counts
@@ -28,9 +30,20 @@ risen_later : (a b c : ℕ) → a ≤ b → HasRisen b c → HasRisen a c
 risen_later a b c low (inl more) = inl (grind arith)
 risen_later a b c low (inr last) = inr last
 
+pub same_draft : (draft : Draft) → IsLater draft draft
+same_draft draft = record {
+  same = refl;
+  more = [];
+  grown = none_taken draft.written;
+  faults = omega arith;
+  shortages = omega arith;
+}
+
 pub later_still : (old mid new : Draft) → IsLater old mid → IsLater mid new → IsLater old new
 later_still old mid new one two = record {
   same = two.same ∙ one.same;
+  more = one.more ++ two.more;
+  grown = both_taken one.more two.more old.written mid.written new.written one.grown two.grown;
   faults = let a = one.faults in let b = two.faults in grind arith;
   shortages = let a = one.shortages in let b = two.shortages in grind arith;
 }
@@ -69,6 +82,13 @@ module _ (count : ℕ) (digits : List ℕ) (are : digits ≡ decimal count) wher
       (next_taken (codes "end " ++ digits) (codes "\n") old.written next.written new.written (both_taken (codes "end ") digits old.written mid.written next.written word number) some.0)
       (refused_later old next new (later_still old mid next one two) some.1)
 
+-- a text was put, or a beginning of it
+pub put_later : (r : PutAll) (text : List ℕ) (old new : Draft) → new.is_there ≡ old.is_there → old.faults ≤ new.faults → old.shortages ≤ new.shortages
+    → TookText r text old.written new.written → IsLater old new
+put_later put.Done text old new same faults shortages took = record { same = same; more = text; grown = took; faults = faults; shortages = shortages }
+put_later put.Failed text old new same faults shortages took = record { same = same; more = take took.0 text; grown = took.2; faults = faults; shortages = shortages }
+put_later put.Mem text old new same faults shortages took = record { same = same; more = take took.0 text; grown = took.2; faults = faults; shortages = shortages }
+
 -- ---- what is left
 
 pub none_left : (rest : List ℕ) → (length rest == 0) ≡ true → rest ≡ []
@@ -87,7 +107,7 @@ not_begun v (inr not) begun = cc
 -- nothing is made on a sheet that wasn't begun, or was given up
 pub closes_idle : (draft : Draft) (sheet : Sheet) → draft.is_there ≡ true → (sheet.writing ≡ Unbegun) ⊎ (sheet.writing ≡ Lost) → Closes (record { draft = draft; sheet = sheet }) draft
 closes_idle draft sheet there not = record {
-  later = record { same = refl; faults = omega arith; shortages = omega arith };
+  later = same_draft draft;
   beginning = λ P J has. if_told draft.written (beginning_of_record P J) (beginning_made sheet.writing P J draft.written sheet.lines.items sheet.count (has there));
   whole = λ P J has begun. absurd (not_begun sheet.writing not begun);
 }

@@ -15,6 +15,7 @@ use Rattle.mk_scribe.specs.declared.sheet.Writing.TheVariants.{Unbegun}
 use Rattle.mk_scribe.specs.Desks.{Desk, Has, IsNew, Makes, MakesOn, Notes, desk_of, looks_of}
 use Rattle.mk_scribe.specs.Drafts.{Draft, HasRefused, IsLater, draft_of}
 use Rattle.mk_scribe.specs.inner.Steps.{Adds, Moves}
+use Rattle.mk_scribe.proofs.Closing.{later_still, same_draft}
 use Rattle.mk_scribe.proofs.Texts.{beginning_made, beginning_of_record, if_told, moved}
 
 -- lines were made, and then some were moved
@@ -55,3 +56,7 @@ module _ {S : Type 0} (written : S → Option (List ℕ)) (faults shortages : S 
   pub shown_begins : (had J : List Entry) (old new : Scribe S) → IsNew (desk_of written faults shortages old) → IfSome (desk_of written faults shortages old).draft.written (λ bytes. bytes ≡ []) → IsShown (looks_of written faults shortages) P pause had J old new
       → Has (desk_of written faults shortages new) P J × IfSome (desk_of written faults shortages new).draft.written (λ bytes. BeginsWith (record_text P J) bytes)
   shown_begins had J old new begin empty is = (shown had J old new begin empty is, written_begins new.draft new.sheet J (shown had J old new begin empty is))
+
+  pub saw_later : (batches : List (List Entry)) (old new : Scribe S) → Saw (looks_of written faults shortages) P pause batches old new → IsLater (desk_of written faults shortages old).draft (desk_of written faults shortages new).draft
+  saw_later [] old new same = subst (λ (o : Scribe S). IsLater (desk_of written faults shortages old).draft (desk_of written faults shortages o).draft) (sym same) (same_draft (desk_of written faults shortages old).draft)
+  saw_later (batch ∷ batches) old new look = later_still (desk_of written faults shortages old).draft (desk_of written faults shortages look.0).draft (desk_of written faults shortages new).draft look.1.later (saw_later batches look.0 new look.2)

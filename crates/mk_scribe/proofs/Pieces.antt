@@ -1,8 +1,9 @@
 -- Texts that are put piece by piece.
-use Rattle.std.proofs.Common.{◌≡◌, ◌⊎◌, inl, inr, ℕ, ◌+◌, ◌≤◌, List, ◌++◌, length, Option, Some, None, refl, sym, ap, ◌∙◌, subst, append_assoc, length-append, arith}
+use Rattle.std.proofs.Common.{◌≡◌, ◌⊎◌, inl, inr, ℕ, ◌+◌, ◌≤◌, List, [], ◌++◌, length, Option, Some, None, refl, sym, ap, ◌∙◌, subst, append_assoc, length-append, arith}
 use Rattle.std.specs.Prelude.{take, drop}
 use Rattle.std.proofs.lemmas.List.{take-append-le}
 use Rattle.std.proofs.Math.Seq.{take-append-add}
+use Rattle.mk_base.proofs.Lists.{append_nil}
 use Rattle.mk_outside.specs.declared.sink.PutAll.{PutAll}
 use Rattle.mk_outside.specs.declared.sink.PutAll.TheVariants as put
 use Rattle.mk_outside.specs.Sinks.{TookBeginning, TookText, appended}
@@ -24,6 +25,10 @@ pub all_taken : (r : PutAll) (text : List ℕ) (old new : Option (List ℕ)) →
 all_taken put.Done text old new took is = took
 all_taken put.Failed text old new took is = absurd cc
 all_taken put.Mem text old new took is = absurd cc
+
+pub none_taken : (old : Option (List ℕ)) → old ≡ appended [] old
+none_taken None = refl
+none_taken (Some bytes) = ap Some (sym (append_nil bytes))
 
 -- one text behind another
 pub both_taken : (a b : List ℕ) (old mid new : Option (List ℕ)) → mid ≡ appended a old → new ≡ appended b mid → new ≡ appended (a ++ b) old

@@ -1,6 +1,7 @@
 -- What is seen of a draft, which may be missing.
 use Rattle.std.specs.Prelude.{◌≡◌, ℕ, ◌≤◌, ◌⊎◌, Bool, true, false, List, Option, Some, None}
 use Rattle.mk_outside.specs.Counts.{HasRisen}
+use Rattle.mk_outside.specs.Sinks.{appended}
 
 -- whether there is one; what was written, where the sink tells that; and the sink's counts
 pub record Draft : Type 0 where
@@ -24,9 +25,11 @@ draft_of written faults shortages (Some sink) = record {
   shortages = shortages sink;
 }
 
--- the same draft later: its counts haven't fallen
+-- the same draft later: more may stand behind what was written, and no count has fallen
 pub record IsLater (old new : Draft) : Type 0 where
   pub same : new.is_there ≡ old.is_there
+  pub more : List ℕ
+  pub grown : new.written ≡ appended more old.written
   pub faults : old.faults ≤ new.faults
   pub shortages : old.shortages ≤ new.shortages
 

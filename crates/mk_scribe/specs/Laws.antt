@@ -4,11 +4,11 @@ use Rattle.mk_base.specs.Lists.{BeginsWith}
 use Rattle.mk_plan.specs.declared.Plan.{Plan}
 use Rattle.mk_plan.specs.declared.Entry.{Entry}
 use Rattle.mk_record_read.specs.Texts.{record_text}
-use Rattle.mk_onlooker.specs.Showings.{IsShown}
+use Rattle.mk_onlooker.specs.Showings.{IsShown, Saw}
 use Rattle.mk_scribe.specs.declared.scribe.Scribe.{Scribe}
 use Rattle.mk_scribe.specs.declared.sheet.Writing.TheVariants.{Begun}
 use Rattle.mk_scribe.specs.Desks.{Has, IsNew, desk_of, looks_of}
-use Rattle.mk_scribe.specs.Drafts.{HasRefused}
+use Rattle.mk_scribe.specs.Drafts.{HasRefused, IsLater}
 use Rattle.mk_scribe.specs.Openings.{opening_text}
 
 module _ {S : Type 0} (written : S → Option (List ℕ)) (faults shortages : S → ℕ) where
@@ -22,6 +22,12 @@ module _ {S : Type 0} (written : S → Option (List ℕ)) (faults shortages : S 
       → Has (desk_of written faults shortages new) P J
       × IfSome (desk_of written faults shortages new).draft.written
       (λ bytes. BeginsWith (record_text P J) bytes)
+
+  -- what is shown to it later only adds to its draft
+  abbrev pub DraftsGrow : Type 0
+  DraftsGrow = (P : Plan) (pause : Bool) (batches : List (List Entry)) (old new : Scribe S)
+      → Saw (looks_of written faults shortages) P pause batches old new
+      → IsLater (desk_of written faults shortages old).draft (desk_of written faults shortages new).draft
 
   -- behind a look at a pause in which it refused nothing, it is all of the record of what was shown
   -- by then, but for the `end` line

@@ -37,7 +37,7 @@ pub fn summed<F: Fleet, R: Wait>(
 {
     let scenario = demo_scenario(alloc, size)?;
     let mut nobody = Nobody;
-    let told = played(
+    played(
         rt,
         alloc,
         kinds,
@@ -46,6 +46,6 @@ pub fn summed<F: Fleet, R: Wait>(
         Form::Summary,
         false,
         &mut nobody,
-    );
-    told.text
+    )
+    .text
 }

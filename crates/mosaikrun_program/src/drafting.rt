@@ -12,11 +12,7 @@ use std::alloc::Global;
 
 // Who writes the record of a run while it goes: into a draft of the file of this name. Without a name, or where the
 // folder begins no draft, nothing is written until the run is over.
-pub fn scribe_for<D: Drafts>(
-    alloc: Global,
-    folder: &mut D,
-    name: &Option<Text>,
-) -> Scribe<D::Draft>
+pub fn scribe_for<D: Drafts>(alloc: Global, folder: &mut D, name: &Option<Text>) -> Scribe<D::Draft>
     ensures new { IsNew (desk_of D.Draft.written D.Draft.faults D.Draft.shortages result) }
     ensures kept { D.files folder.new ≡ D.files folder.old }
     ensures count { D.faults folder.old ≤ D.faults folder.new }

@@ -3,7 +3,7 @@ use Rattle.std.proofs.Common.{◌≡◌, ◌⊎◌, inl, inr, ℕ, Bool, true, f
 use Rattle.mk_plan.specs.declared.Plan.{Plan}
 use Rattle.mk_plan.specs.declared.Journal.{Journal}
 use Rattle.mk_plan.specs.declared.Entry.{Entry}
-use Rattle.mk_record.specs.declared.saved.Saved.{Saved}
+use Rattle.mk_record_read.specs.declared.saved.Saved.{Saved}
 use Rattle.mk_resume.specs.Showings.{ShowsAsResumed}
 use Rattle.mosaikrun_run.specs.Sayings.{record_of}
 use Rattle.mosaikrun_run.proofs.Showing.{recorded_or_not}

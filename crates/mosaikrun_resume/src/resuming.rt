@@ -108,16 +108,7 @@ pub fn resumed<F: Fleet, R: Wait, O: Onlooker>(
         onlooker.old onlooker.new }
 {
     match saved_of(alloc, bytes) {
-        Ok(saved) => go_on(
-            rt,
-            alloc,
-            kinds,
-            study,
-            saved,
-            fleet,
-            is_recorded,
-            onlooker,
-        ),
+        Ok(saved) => go_on(rt, alloc, kinds, study, saved, fleet, is_recorded, onlooker),
         Err(ending) => Told::unrecorded(ending),
     }
 }
