@@ -1,5 +1,5 @@
 #!/usr/bin/env python3
-"""Checks how a built program saves records: a save that fails leaves the old record, and nothing beside it.
+"""Checks how a built program saves records: a save that fails leaves the old record, and beside it the draft at most.
 
 `run_saves.py PROGRAM` tries saves that fail by a limit of size, by a full file system of 64 KB (where one may be
 mounted) and by missing rights; saves over a link, over a file with rights of its own and beside a file that has the
@@ -79,7 +79,7 @@ class Room:
         return {file.name: file.read_bytes() for file in self.path.iterdir() if file.is_file()}
 
     def failed(self, ended: Ended, files: Dict[str, bytes]) -> List[str]:
-        """Compares an end with that of a save that failed and changed no file; returns what differs."""
+        """Compares an end with that of a save that failed; `files` are those that must be there then."""
         found = [] if ended == Ended(6, b"", FOLDER_FAULT) else [f"it ended with {ended}"]
         return found + ([] if self.files() == files else [f"the files are {short(self.files())}"])
 
@@ -106,14 +106,14 @@ def limited(size: int, ignored: bool) -> Callable[[], None]:
 
 
 def run_over_old(room: Room) -> List[str]:
-    """A limit of size: the old record stays."""
-    files = room.files()
+    """A limit of size: the old record stays, and the draft has what went into it."""
+    files = {**room.files(), "kept.part": room.record[:500]}
     return room.failed(room.run("run", "s.toml", "--record", "kept", before=limited(500, True)), files)
 
 
 def run_over_none(room: Room) -> List[str]:
-    """A limit of size, and no old record: nothing is there then."""
-    files = room.files()
+    """A limit of size, and no old record: the draft is there then."""
+    files = {**room.files(), "new.part": room.record[:500]}
     return room.failed(room.run("run", "s.toml", "--record", "new", before=limited(500, True)), files)
 
 
@@ -127,7 +127,7 @@ def migrate_to_itself(room: Room) -> List[str]:
 
 
 def ended_by_signal(room: Room) -> List[str]:
-    """A limit of size whose signal isn't ignored ends the program: the old record stays, beside a part."""
+    """A limit of size whose signal isn't ignored ends the program: the old record stays, beside the draft."""
     files = room.files()
     ended = room.run("run", "s.toml", "--record", "kept", before=limited(500, False))
     files["kept.part"] = room.record[:500]
@@ -222,7 +222,7 @@ def on_full_system(room: Room) -> List[str]:
         print("no file system may be mounted here, so none was filled")
         return []
     try:
-        return fill_and_save(Room(room.program, small, 300))
+        return fill_and_save(Room(room.program, small, 120))
     finally:
         subprocess.run(["umount", str(small)], check=True)
 
@@ -231,9 +231,11 @@ def fill_and_save(room: Room) -> List[str]:
     """Tries a save where little room is left, and again where there is enough."""
     free = os.statvfs(room.path).f_bavail * os.statvfs(room.path).f_bsize
     (room.path / "fill").write_bytes(bytes(free - 8192))
-    files = room.files()
+    files = {**room.files(), "kept.part": room.record[:8192]}
     found = [] if len(room.record) > 8192 else ["the record is too short to fill anything"]
     found += room.failed(room.run("run", "s.toml", "--record", "kept"), files)
+    # the first draft has taken all room
+    files["new.part"] = b""
     found += room.failed(room.run("run", "s.toml", "--record", "new"), files)
     (room.path / "fill").unlink()
     files = {name: content for name, content in files.items() if name != "fill"}

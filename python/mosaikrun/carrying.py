@@ -12,7 +12,7 @@ import tempfile
 import time
 from typing import Any, List, NamedTuple, Optional, Union
 
-from mosaikrun import program
+from mosaikrun import drafts, program
 from mosaikrun.errors import RunError, ScenarioError, refused
 from mosaikrun.running import Running
 from mosaikrun.study import Command, Scenario
@@ -98,6 +98,7 @@ def carry_out(plan: Plan) -> Optional[str]:
             await_listener(simulator.sid, simulator.how[1])
     if plan.record.exists():
         os.replace(plan.record, f"{plan.record}.old")
+    earlier = drafts.beside(plan.record)
     with tempfile.TemporaryDirectory(prefix="mosaikrun-") as folder:
         room = pathlib.Path(folder)
         commands = [sid for sid, one in plan.scenario.simulators.items() if isinstance(one.how, Command)]
@@ -107,17 +108,19 @@ def carry_out(plan: Plan) -> Optional[str]:
         try:
             status = running.run([plan.command, str(scenario), *plan.options, "--record", str(plan.record)])
         except BaseException:
-            if plan.record.exists():
-                sys.stderr.write(f"mosaikrun: the run was ended; {goes_on(plan)}\n")
+            # where the program was killed, the record so far is a draft
+            made = [draft for draft in drafts.beside(plan.record) if draft not in earlier and drafts.has_entry(draft)]
+            for record in [plan.record] if plan.record.exists() else made:
+                sys.stderr.write(f"mosaikrun: the run was ended; {goes_on(plan, record)}\n")
             raise
         if status != 0:
             raise failure(plan, running, status)
         return running.report()
 
 
-def goes_on(plan: Plan) -> str:
+def goes_on(plan: Plan, record: pathlib.Path) -> str:
     """How a run that was cut short goes on."""
-    return f"its record is {plan.record}; it goes on by: mosaikrun resume {plan.file} {plan.record}"
+    return f"its record is {record}; it goes on by: mosaikrun resume {plan.file} {record}"
 
 
 def failure(plan: Plan, running: Running, status: int) -> RunError:

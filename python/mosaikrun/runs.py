@@ -1,7 +1,7 @@
 """The runs of a sweep, each in a folder of its own: makes one, goes on with one that was cut, keeps one that is whole.
 
 A run's folder is named by its scenario's text, so it is the same run whenever a sweep has it. In it are
-`scenario.toml`; `study.record`, which the program saves; `log.txt`, what the program and the simulators printed;
+`scenario.toml`; `study.record`, which the program saves; `study.record.part`, its draft, where the program was killed; `log.txt`, what the program and the simulators printed;
 `status.json`, how the run ended; and `watched.txt`, the tables of its watches.
 """
 
@@ -21,7 +21,7 @@ import threading
 import time
 from typing import Callable, Iterable, Iterator, Optional
 
-from mosaikrun import program
+from mosaikrun import drafts, program
 
 PATIENCE = 50  # seconds that a run has to save its record once its simulators were ended
 GOES_ON = re.compile(r"run [5678]: |outside: fleet")  # lines of a run whose record can be gone on with
@@ -90,19 +90,11 @@ def outcome_of(folder: pathlib.Path) -> Optional[Outcome]:
     return None
 
 
-def is_whole(record: pathlib.Path) -> bool:
-    """Whether the file is there and has its last line."""
-    with contextlib.suppress(OSError), record.open("rb") as file:
-        file.seek(max(0, file.seek(0, os.SEEK_END) - 32))
-        return re.search(rb"\nend [0-9]+\n\Z", file.read()) is not None
-    return False
-
-
 def is_done(study: Study, run: str) -> bool:
     """Whether nothing is left to do for this run."""
     folder = study.of(run)
     outcome = outcome_of(folder)
-    done = outcome is not None and outcome.status == 0 and is_whole(folder / "study.record")
+    done = outcome is not None and outcome.status == 0 and drafts.is_whole(folder / "study.record")
     return done and (not study.watch or (folder / "watched.txt").exists())
 
 
@@ -208,22 +200,29 @@ def made(children: Children, run: str) -> Outcome:
     """Runs the scenario, or goes on with its record where it was cut; the outcome is kept."""
     folder, began = children.study.of(run), time.monotonic()
     scenario, record, kept = str(folder / "scenario.toml"), folder / "study.record", folder / "status.json"
-    before, whole = outcome_of(folder), is_whole(record)
+    before, whole, draft = outcome_of(folder), drafts.is_whole(record), drafts.newest(record)
     how, status, line = "", 1, before.line if before else ""
     kept.unlink(missing_ok=True)
     (folder / "watched.txt").unlink(missing_ok=True)
-    if whole and not before:
+    if draft:
+        # the program was killed
+        how = "resumed"
+        status, line = called(children, ["resume", scenario, str(draft), "--record", str(record)], None, run)
+    elif whole and not before:
         # the sweep was ended between the record and its outcome
         how = "run"
         status, line = called(children, ["replay", str(record)], None, run)
-    if whole and status and GOES_ON.match(line):
+    if whole and not draft and status and GOES_ON.match(line):
         how = "resumed"
         status, line = called(children, ["resume", scenario, str(record), "--record", str(record)], None, run)
     if not how or (status and (how == "run" or NOT_THIS.match(line))):
         how = "run"
+        drafts.forget(record)
         if record.exists():
             record.replace(folder / "study.record.old")
         status, line = called(children, ["run", scenario, "--record", str(record)], None, run)
+    if status == 0:
+        drafts.forget(record)
     outcome = Outcome(status, line, how, round(time.monotonic() - began, 3))
     written(kept, json.dumps(dataclasses.asdict(outcome)) + "\n")
     return outcome
@@ -246,7 +245,7 @@ def one(children: Children, run: str) -> Outcome:
     """Makes this run, and the tables of its watches, as far as they aren't there."""
     folder = children.study.of(run)
     outcome = outcome_of(folder)
-    if outcome is None or outcome.status != 0 or not is_whole(folder / "study.record"):
+    if outcome is None or outcome.status != 0 or not drafts.is_whole(folder / "study.record"):
         outcome = made(children, run)
     if outcome.status == 0 and children.study.watch and not (folder / "watched.txt").exists():
         table = watched(children, run)

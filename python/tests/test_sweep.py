@@ -271,6 +271,21 @@ class Sweeps(unittest.TestCase):
         self.assertEqual(self.how(), ["run", "resumed", "run", "run"])
         self.assertEqual(self.replayed(self.rows()[1]).splitlines()[-1], "end 20")
 
+    def test_a_run_that_was_killed_is_resumed_from_its_draft(self) -> None:
+        more = ["--set", "entities.counter.params.first=1,2,4"]
+        self.assertEqual(self.sweep(*more)[0], 0)
+        for row, length in zip(self.rows(), (0.6, 0.0, 1.0)):
+            record, draft = self.file(row, "study.record"), self.file(row, "study.record.part2")
+            text = record.read_bytes()
+            draft.write_bytes(text[: int(len(text) * length)])
+            self.file(row, "status.json").unlink()
+            record.unlink()
+        status, said = self.sweep(*more)
+        self.assertEqual(status, 0, said)
+        self.assertEqual(self.how(), ["resumed", "run", "resumed"])
+        self.assertEqual([row["Sum-0.0 in sum"] for row in self.rows()], ["55", "65", "85"])
+        self.assertEqual(list((self.folder / "out").rglob("*.part*")), [])
+
     def test_a_record_of_other_simulators_is_run_anew(self) -> None:
         more = ["--set", "entities.counter.params.first=2"]
         (self.folder / "break").touch()

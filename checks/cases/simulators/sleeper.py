@@ -1,0 +1,44 @@
+"""A simulator for the check of runs that are killed: sleeper.py HOST:PORT MILLISECONDS [WHAT].
+
+Its entity goes on from number to number by what comes in and by the time, and each step takes so many milliseconds. With `mute` it
+never answers `create`, with `refuses` it answers that with a failure, and with `lingers` it doesn't end when it is told to stop.
+"""
+
+import sys
+import time as clock
+
+import api
+
+META = {"type": "time-based", "models": {"Walk": {"public": True, "params": [], "attrs": ["in", "out"]}}}
+LONG = 600
+
+
+class Sleeper(api.Simulator):
+    """One number, which each step changes."""
+
+    def __init__(self, milliseconds: int, what: str) -> None:
+        super().__init__(META)
+        self.seconds, self.what, self.number = milliseconds / 1000, what, 1
+
+    def create(self, num: int, model: str) -> list:
+        if self.what == "mute":
+            clock.sleep(LONG)
+        if self.what == "refuses":
+            raise ValueError("this simulator creates nothing")
+        return [{"eid": str(eid), "type": model} for eid in range(num)]
+
+    def step(self, time: int, inputs: dict, max_advance: int) -> int:
+        came = sum(value for attrs in inputs.values() for values in attrs.values() for value in values.values())
+        self.number = (self.number * 31 + came + time) % 1000003
+        clock.sleep(self.seconds)
+        return time + 1
+
+    def get_data(self, outputs: dict) -> dict:
+        return {eid: {"out": self.number} for eid in outputs}
+
+    def finalize(self) -> None:
+        if self.what == "lingers":
+            clock.sleep(LONG)
+
+
+api.serve(api.connected(sys.argv[1]), Sleeper(int(sys.argv[2]), "".join(sys.argv[3:])))
