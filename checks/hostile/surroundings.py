@@ -151,6 +151,14 @@ def tried(stage: Surroundings, case: Case) -> tuple[str, list[str]]:
     return f"{seen.status}{' before the stop' if is_missed else ''}", wrong
 
 
+@functools.lru_cache(maxsize=None)
+def left_out() -> tuple[str, ...]:
+    """Returns the surroundings that this system doesn't let a program have: those for which something has to be mounted."""
+    words = ["unshare", "-rm", "sh", "-c", DEVICES]
+    can_mount = shutil.which("unshare") and subprocess.run(words, check=False, capture_output=True).returncode == 0
+    return () if can_mount else tuple(name for name in BARE if BARE[name][0] == "unshare")
+
+
 def all_cases(stage: Surroundings) -> list[list[Case]]:
     """Returns all cases, those of each kind by themselves."""
     short = []
@@ -170,9 +178,7 @@ def all_cases(stage: Surroundings) -> list[list[Case]]:
             afters = [most * place / 10_000 for place in range(10)]
             stopped += [Case("stopped", command, (who, after, STOPPED)) for after in afters]
     stopped.append(Case("stopped", "steady", ("one", 0.01, 5)))
-    can_mount = shutil.which("unshare") and subprocess.run(["unshare", "-rm", "true"], check=False).returncode == 0
-    here = [name for name in BARE if can_mount or BARE[name][0] != "unshare"]
-    bare = [Case("bare", command, (name,)) for command in COMMANDS for name in here]
+    bare = [Case("bare", command, (name,)) for command in COMMANDS for name in BARE if name not in left_out()]
     return [short, clocks, files, stopped, bare]
 
 
@@ -209,6 +215,8 @@ def try_all(program: str, count: int, seed: int, jobs: int) -> tuple[int, int]:
         found = [one for some in pool.map(share, shares, chunksize=1) for one in some]
     for case, _, wrong in [one for one in found if one[2]][:40]:
         print(f"{case.kind}, {case.command}, {case.value}: {', '.join(wrong)}")
+    if left_out():
+        print(f"left out, since nothing can be mounted: {', '.join(left_out())}")
     too_few = enough_wrong(found)
     print(*too_few, sep="\n", end="\n" if too_few else "")
     statuses = collections.Counter((case.kind, status) for case, status, _ in found)
