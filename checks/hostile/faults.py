@@ -136,15 +136,15 @@ class Stage:
 def still_running(session: int) -> list[int]:
     """Returns the programs of a session that still run."""
     found = []
-    for file in pathlib.Path("/proc").glob("[0-9]*/stat"):
+    for pid in filter(str.isdigit, os.listdir("/proc")):
         try:
-            text = file.read_text(encoding="utf-8", errors="replace")
+            text = pathlib.Path("/proc", pid, "stat").read_text(encoding="utf-8", errors="replace")
         except OSError:
             continue
         # behind the name, which stands in parentheses, come the state, the parent, the group and the session
         state, _, _, its = text[text.rindex(")") + 1 :].split()[:4]
         if int(its) == session and state != "Z":
-            found.append(int(file.parent.name))
+            found.append(int(pid))
     return found
 
 
