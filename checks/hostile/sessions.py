@@ -3,6 +3,7 @@
 from __future__ import annotations
 
 import array
+import contextlib
 import multiprocessing
 import os
 import pathlib
@@ -121,6 +122,7 @@ class Stage:
         self.children = socket.socket(socket.AF_UNIX, socket.SOCK_STREAM)
         self.children.bind(self.local)
         self.children.listen(16)
+        self.children.setblocking(False)
         self.reports: dict[tuple, bytes] = {}
 
     def scenario(self, plan: Plan) -> str:
@@ -162,7 +164,9 @@ class Session:
         begun = time.monotonic()
         while time.monotonic() < begun + PATIENCE and not self.over.is_set():
             if select.select([listener], [], [], 0.05)[0]:
-                return listener.accept()[0]
+                # another thread may have been faster, since the children share a listener
+                with contextlib.suppress(BlockingIOError):
+                    return listener.accept()[0]
         return None
 
     def _serve(self, sim: Honest, link: socket.socket) -> None:
