@@ -270,9 +270,12 @@ def tried(stage: Stage, seed: str) -> list[str]:
     hostile = session.sims[plan.hostile]
     act = hostile.act or Act([], "go", ["outside: fleet" if plan.is_absent else None])
     wrong = session.wrong + ending_wrong(status, out, err, act.lines, report)
-    for sim in session.sims:
+    for place, sim in enumerate(session.sims):
+        # a child whose connection wasn't taken yet at the first message is ended without a stop (docs/rules.md)
+        is_untaken = plan.at == 0 and plan.children[place] and not sim.heard
         if sim is not hostile:
-            wrong += sim.wrong + ([] if sim.stopped or plan.is_absent else [f"{sim.name} wasn't told to stop"])
+            is_right = sim.stopped or plan.is_absent or is_untaken
+            wrong += sim.wrong + ([] if is_right else [f"{sim.name} wasn't told to stop"])
     return [f"session {seed}: {', '.join(wrong)}; {plan}; {hostile.moment}; {described(act)}"] if wrong else []
 
 
