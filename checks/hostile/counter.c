@@ -1,4 +1,5 @@
-// A simulator of one model Count with the entities 0, 1 and so on: counter HOST:PORT. Its output is the time of its step.
+// A simulator of one model Count with the entities 0, 1 and so on: counter HOST:PORT [MS]. Its output is the time of its
+// step. With MS it is slow: it reads at most 4,096 bytes at a time, and waits so many milliseconds before each.
 #include <arpa/inet.h>
 #include <netinet/in.h>
 #include <stdio.h>
@@ -7,12 +8,15 @@
 #include <sys/socket.h>
 #include <unistd.h>
 
-enum { LONGEST = 1 << 20 };
+enum { LONGEST = 1 << 20, PIECE = 4096 };
 static char payload[LONGEST + 1], answer[LONGEST];
+static long pause_ms;
 
 static void whole(int link, char *data, size_t length) {
     for (size_t held = 0; held < length;) {
-        ssize_t piece = read(link, data + held, length - held);
+        size_t most = pause_ms && length - held > PIECE ? PIECE : length - held;
+        if (pause_ms) usleep(pause_ms * 1000);
+        ssize_t piece = read(link, data + held, most);
         if (piece <= 0) exit(5);
         held += piece;
     }
@@ -24,10 +28,10 @@ static void say(int link) {
     if (write(link, answer, length + 4) != (ssize_t)(length + 4)) exit(5);
 }
 
-static int put_entities(char *to, const char *piece, int count) {
-    int length = sprintf(to, "[");
-    for (int i = 0; i < count; i++) length += sprintf(to + length, piece, i ? "," : "", i);
-    return length + sprintf(to + length, "]");
+static int put_all(char *to, const char *ends, const char *piece, int count, long time) {
+    int length = sprintf(to, "%c", ends[0]);
+    for (int i = 0; i < count; i++) length += sprintf(to + length, piece, i ? "," : "", i, time);
+    return length + sprintf(to + length, "%c", ends[1]);
 }
 
 static void reply(int link, long time, int count) {
@@ -38,11 +42,11 @@ static void reply(int link, long time, int count) {
         to += sprintf(to, "{\"api_version\":\"3.0\",\"type\":\"time-based\",\"models\":{\"Count\":"
                           "{\"public\":true,\"params\":[\"start\"],\"attrs\":[\"in\",\"out\"]}}}");
     else if (!strncmp(rest, "[\"create", 8))
-        to += put_entities(to, "%s{\"eid\":\"%d\",\"type\":\"Count\"}", count);
+        to += put_all(to, "[]", "%s{\"eid\":\"%d\",\"type\":\"Count\"}", count, time);
     else if (sscanf(rest, "[\"step\",[%ld", &step) == 1)
         to += sprintf(to, "%ld", step + 1);
     else if (!strncmp(rest, "[\"get_data", 10))
-        to += sprintf(to, "{\"0\":{\"out\":%ld}}", time);
+        to += put_all(to, "{}", "%s\"%d\":{\"out\":%ld}", count, time);
     else
         to += sprintf(to, "null");
     sprintf(to, "]");
@@ -52,9 +56,12 @@ static void reply(int link, long time, int count) {
 int main(int words, char **word) {
     struct sockaddr_in at = {.sin_family = AF_INET, .sin_addr.s_addr = htonl(INADDR_LOOPBACK)};
     char *colon = words > 1 ? strrchr(word[1], ':') : 0;
-    int link = socket(AF_INET, SOCK_STREAM, 0), count = 1;
+    int link = socket(AF_INET, SOCK_STREAM, 0), count = 1, room = PIECE;
     long time = 0;
     if (!colon) return 2;
+    if (words > 2) pause_ms = atol(word[2]);
+    // the system then holds little of what isn't read yet
+    if (pause_ms) setsockopt(link, SOL_SOCKET, SO_RCVBUF, &room, sizeof room);
     at.sin_port = htons(atoi(colon + 1));
     if (connect(link, (struct sockaddr *)&at, sizeof at)) return 6;
     for (;;) {

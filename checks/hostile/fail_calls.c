@@ -1,7 +1,7 @@
 // A library to be loaded before a program (LD_PRELOAD). The call number FAULT_AT, from 0, of the function FAULT_CALL fails
-// with the error FAULT_ERROR. With FAULT_LENGTH each read and each write is of so many bytes at most. With FAULT_TELL, the
-// name of a file, it writes there at the end how often each function was called. Programs that this one starts are without
-// it.
+// with the error FAULT_ERROR. With FAULT_LENGTH each read and each write is of so many bytes at most. With FAULT_CLOCK, the
+// number of a clock, this clock jumps by FAULT_JUMP milliseconds at its reading number FAULT_AT. With FAULT_TELL, the name
+// of a file, it writes there at the end how often each function was called. Programs that this one starts are without it.
 #define _GNU_SOURCE
 #include <dlfcn.h>
 #include <errno.h>
@@ -31,6 +31,7 @@ static const char *wanted;
 static long at = -1;
 static int error;
 static size_t longest = (size_t)-1;
+static long jumping = -1, jump, readings;
 static char told[4096], named[64];
 
 static int place_of(const char *name) {
@@ -126,6 +127,22 @@ int close(int file) {
     return fails(place) ? -1 : closed;
 }
 
+int clock_gettime(clockid_t clock, struct timespec *now) {
+    static int (*next)(clockid_t, struct timespec *);
+    static int place;
+    if (!next) {
+        next = (int (*)(clockid_t, struct timespec *))dlsym(RTLD_NEXT, "clock_gettime");
+        place = place_of("clock_gettime");
+    }
+    if (fails(place)) return -1;
+    int told = next(clock, now);
+    if (told || clock != jumping || readings++ < at) return told;
+    long parts = now->tv_nsec + jump % 1000 * 1000000;
+    now->tv_sec += jump / 1000 + (parts >= 1000000000) - (parts < 0);
+    now->tv_nsec = (parts + 1000000000) % 1000000000;
+    return told;
+}
+
 CALL(int, fsync, (int file), (file))
 CALL(int, fdatasync, (int file), (file))
 CALL(int, fstat, (int file, struct stat *seen), (file, seen))
@@ -176,7 +193,6 @@ CALL(int, waitid, (idtype_t kind, id_t child, siginfo_t *seen, int flags), (kind
 CALL(pid_t, wait4, (pid_t child, int *status, int flags, struct rusage *used), (child, status, flags, used))
 CALL(int, kill, (pid_t child, int signal), (child, signal))
 CALL(int, nanosleep, (const struct timespec *wait, struct timespec *left), (wait, left))
-CALL(int, clock_gettime, (clockid_t clock, struct timespec *now), (clock, now))
 ANSWER(clock_nanosleep, (clockid_t clock, int flags, const struct timespec *wait, struct timespec *left),
        (clock, flags, wait, left))
 ANSWER(posix_spawn, (pid_t *child, const char *path, const posix_spawn_file_actions_t *actions,
@@ -189,10 +205,12 @@ ANSWER(posix_spawnp, (pid_t *child, const char *path, const posix_spawn_file_act
 __attribute__((constructor)) static void begin(void) {
     const char *number = getenv("FAULT_AT"), *code = getenv("FAULT_ERROR"), *length = getenv("FAULT_LENGTH");
     const char *name = getenv("FAULT_CALL"), *file = getenv("FAULT_TELL");
+    const char *clock = getenv("FAULT_CLOCK"), *by = getenv("FAULT_JUMP");
     if (name) wanted = named, snprintf(named, sizeof named, "%s", name);
     at = number ? atol(number) : -1;
     error = code ? atoi(code) : 0;
     if (length) longest = strtoul(length, 0, 10);
+    if (clock && by) jumping = atol(clock), jump = atol(by);
     if (file) snprintf(told, sizeof told, "%s", file);
     memset(calls, 0, sizeof calls);
     unsetenv("LD_PRELOAD");

@@ -1,4 +1,4 @@
-"""Runs a program on a system of which a call fails, or each read and write is short, and looks at how it ends."""
+"""Runs a program on a system of which a call fails, and looks at how it ends."""
 
 from __future__ import annotations
 
@@ -29,7 +29,6 @@ WAITS = ("recv", "send", "recvfrom", "sendto", "accept", "accept4", "epoll_wait"
 FEWER.update(dict.fromkeys(WAITS, tuple(error for error in ERRORS if error != "EAGAIN")))
 FEWER.update(dict.fromkeys(("fork", "posix_spawn", "posix_spawnp"), ("EAGAIN", "ENOMEM")), clock_gettime=())
 SECONDS = 20
-LENGTHS = (1, 2, 3, 4, 5, 7, 8, 15, 16, 31, 64, 100, 1000)
 MOST_FILES = 1024
 LINE = re.compile(rb"mosaikrun: (outside: (?:fleet|folder|output)|out of memory|run 5: [AB]-0 closed its link)\n")
 STATUS = {b"outside": 6, b"out of": 8, b"run 5": 5}
@@ -39,6 +38,7 @@ INSIDE = 'until = 3\n[[sim]]\nname = "A"\nlocal = "counter"\n[[sim]]\nname = "B"
 INSIDE += COUNT + '"Sum"\n' + FEED
 OUTSIDE = 'until = 3\n[[sim]]\nname = "A"\ncommand = "./counter %(addr)s"\n[[sim]]\nname = "B"\n'
 OUTSIDE += 'command = "./counter %(addr)s"\n' + COUNT + '"Count"\n' + FEED
+WATCH = '[[watch]]\nentity = "B-0.0"\nattr = "in"\nrule = "last"\n'
 COMMANDS = {
     "run within": ("run", "inside.toml", "--record", "new"),
     "run": ("run", "outside.toml", "--record", "new"),
@@ -46,6 +46,10 @@ COMMANDS = {
     "resume": ("resume", "outside.toml", "cut", "--record", "new"),
     "replay": ("replay", "whole"),
     "migrate": ("migrate", "whole", "new"),
+    "check": ("check", "outside.toml"),
+    "watch": ("watch", "whole", "watch.toml"),
+    "blame": ("blame", "whole", "whole"),
+    "demo": ("demo", "1"),
 }
 
 
@@ -77,6 +81,7 @@ class Stage:
         self.room = tempfile.mkdtemp(prefix="hostile-")
         self.library = compiled("fail_calls.c", self.room, "-shared", "-fPIC")
         self.files = {"inside.toml": INSIDE.encode(), "outside.toml": OUTSIDE.encode(), "new": b"before"}
+        self.files["watch.toml"] = WATCH.encode()
         self.files["counter"] = pathlib.Path(compiled("counter.c", self.room)).read_bytes()
         self.files["whole"] = self.run(("run", "outside.toml", "--record", "new"), {}).files["new"]
         lines = self.files["whole"].splitlines(True)
@@ -88,8 +93,8 @@ class Stage:
         if wrong:
             raise RuntimeError(f"without a fault: {[(name, self.good[name]) for name in wrong]}")
 
-    def run(self, words: tuple[str, ...], more: dict[str, str], begun=None, files: int = MOST_FILES) -> Seen:
-        """Runs words in a folder of their own."""
+    def run(self, words: tuple, more: dict[str, str], begun=None, files: int = MOST_FILES, before: tuple = ()) -> Seen:
+        """Runs words in a folder of their own, by another program where words stand before."""
         room = tempfile.mkdtemp(dir=self.room)
         for name, data in self.files.items():
             pathlib.Path(room, name).write_bytes(data)
@@ -98,7 +103,7 @@ class Stage:
         scope = {"PATH": os.environ["PATH"], **more}
         if more:
             scope.update(LD_PRELOAD=self.library, FAULT_TELL=str(told))
-        seen = self._ended(words, room, scope, begun, files)
+        seen = self._ended((*before, self.program, *words), room, scope, begun, files)
         calls = dict(line.split() for line in told.read_text(encoding="utf-8").splitlines()) if told.exists() else {}
         told.unlink(missing_ok=True)
         kept = {it.name: it.read_bytes() for it in pathlib.Path(room).iterdir() if it.name != "counter"}
@@ -108,7 +113,7 @@ class Stage:
     def _ended(self, words: tuple[str, ...], room: str, scope: dict[str, str], begun, files: int) -> Seen:
         limit = None if files == MOST_FILES else lambda: resource.setrlimit(resource.RLIMIT_NOFILE, (files, files))
         pipes = {"stdin": subprocess.DEVNULL, "stdout": subprocess.PIPE, "stderr": subprocess.PIPE, "preexec_fn": limit}
-        with subprocess.Popen([self.program, *words], cwd=room, env=scope, start_new_session=True, **pipes) as ran:
+        with subprocess.Popen(words, cwd=room, env=scope, start_new_session=True, **pipes) as ran:
             if begun:
                 begun(ran.pid)
             try:
@@ -131,15 +136,15 @@ class Stage:
 def still_running(session: int) -> list[int]:
     """Returns the programs of a session that still run."""
     found = []
-    for file in pathlib.Path("/proc").glob("[0-9]*/stat"):
+    for pid in filter(str.isdigit, os.listdir("/proc")):
         try:
-            text = file.read_text(encoding="utf-8", errors="replace")
+            text = pathlib.Path("/proc", pid, "stat").read_text(encoding="utf-8", errors="replace")
         except OSError:
             continue
         # behind the name, which stands in parentheses, come the state, the parent, the group and the session
         state, _, _, its = text[text.rindex(")") + 1 :].split()[:4]
         if int(its) == session and state != "Z":
-            found.append(int(file.parent.name))
+            found.append(int(pid))
     return found
 
 
@@ -207,61 +212,6 @@ def share(words: tuple[str, list[Fault]]) -> list[tuple[Fault, Optional[int], li
     return found
 
 
-def short_wrong(stage: Stage) -> list[list[str]]:
-    """Returns what is wrong about runs whose reads and writes are short."""
-    found = []
-    for length in LENGTHS:
-        for command, words in COMMANDS.items():
-            seen = stage.run(words, {"FAULT_LENGTH": str(length)})
-            wrong = ended_wrong(seen, stage.good[command], stage.files)
-            wrong += [] if seen.status == 0 else [f"status {seen.status}"]
-            found.append([f"{command}, {length} bytes a call: {text}" for text in wrong])
-    return found
-
-
-def children_of(pid: int) -> list[int]:
-    """Returns the programs that a program started."""
-    try:
-        text = pathlib.Path(f"/proc/{pid}/task/{pid}/children").read_text(encoding="ascii")
-    except OSError:
-        return []
-    return [int(word) for word in text.split()]
-
-
-def pause(pid: int) -> None:
-    """Stops a child of a program for a while."""
-    for _ in range(200):
-        children = children_of(pid)
-        if children:
-            break
-        time.sleep(0.001)
-    for child in children:
-        os.kill(child, signal.SIGSTOP)
-    time.sleep(0.3)
-    for child in children:
-        os.kill(child, signal.SIGCONT)
-
-
-def scarce_wrong(stage: Stage) -> list[list[str]]:
-    """Returns what is wrong about runs with stopped children, few files, and none of the usual surroundings."""
-    found = []
-    good = stage.good["run"]
-    for command in ("run", "paced", "resume"):
-        seen = stage.run(COMMANDS[command], {}, pause)
-        wrong = ended_wrong(seen, good._replace(files=stage.good[command].files), stage.files)
-        found.append([f"{command}, children stopped for a while: {text}" for text in wrong])
-    enough = False
-    # with 3 the loader of programs itself can open no file
-    for files in range(4, 25):
-        seen = stage.run(COMMANDS["run"], {}, None, files)
-        wrong = ended_wrong(seen, good, stage.files)
-        wrong += ["more files are too few"] if enough and seen.status != 0 else []
-        enough = enough or seen.status == 0
-        found.append([f"run, {files} files: {text}" for text in wrong])
-    found[-1] += [] if enough else ["24 files are too few for a run with two children"]
-    return found
-
-
 def try_all(program: str, count: int, seed: int, jobs: int) -> tuple[int, int]:
     """Tries so many faults, all where there are no more; returns how many were right, and how many weren't."""
     begun = time.monotonic()
@@ -273,15 +223,11 @@ def try_all(program: str, count: int, seed: int, jobs: int) -> tuple[int, int]:
         found = [one for some in pool.map(share, shares, chunksize=1) for one in some]
     for fault, _, wrong in [one for one in found if one[2]][:40]:
         print(f"{fault.command}: call {fault.number} of {fault.name} with {fault.error}: {', '.join(wrong)}")
-    others = short_wrong(stage) + scarce_wrong(stage)
     stage.close()
-    print(*[text for texts in others for text in texts], sep="\n", end="\n" if any(others) else "")
     statuses = collections.Counter((fault.error, str(status)) for fault, status, _ in found)
     print("statuses:", ", ".join(f"{error} {status}: {times}" for (error, status), times in sorted(statuses.items())))
-    bad = sum(bool(wrong) for _, _, wrong in found) + sum(map(bool, others))
-    tries = len(found) + len(others)
+    bad = sum(bool(wrong) for _, _, wrong in found)
     seconds = time.monotonic() - begun
     names = len({fault.name for fault in every})
-    print(f"faults: {len(found)} of {len(every)} in {names} functions, seed {seed}, {len(others)} others, ", end="")
-    print(f"{bad} wrong, {seconds:.0f} s")
-    return tries - bad, bad
+    print(f"faults: {len(found)} of {len(every)} in {names} functions, seed {seed}, {bad} wrong, {seconds:.0f} s")
+    return len(found) - bad, bad

@@ -3,6 +3,7 @@
 from __future__ import annotations
 
 import array
+import contextlib
 import multiprocessing
 import os
 import pathlib
@@ -121,6 +122,7 @@ class Stage:
         self.children = socket.socket(socket.AF_UNIX, socket.SOCK_STREAM)
         self.children.bind(self.local)
         self.children.listen(16)
+        self.children.setblocking(False)
         self.reports: dict[tuple, bytes] = {}
 
     def scenario(self, plan: Plan) -> str:
@@ -162,7 +164,9 @@ class Session:
         begun = time.monotonic()
         while time.monotonic() < begun + PATIENCE and not self.over.is_set():
             if select.select([listener], [], [], 0.05)[0]:
-                return listener.accept()[0]
+                # another thread may have been faster, since the children share a listener
+                with contextlib.suppress(BlockingIOError):
+                    return listener.accept()[0]
         return None
 
     def _serve(self, sim: Honest, link: socket.socket) -> None:
@@ -266,9 +270,12 @@ def tried(stage: Stage, seed: str) -> list[str]:
     hostile = session.sims[plan.hostile]
     act = hostile.act or Act([], "go", ["outside: fleet" if plan.is_absent else None])
     wrong = session.wrong + ending_wrong(status, out, err, act.lines, report)
-    for sim in session.sims:
+    for place, sim in enumerate(session.sims):
+        # a child whose connection wasn't taken yet at the first message is ended without a stop (docs/rules.md)
+        is_untaken = plan.at == 0 and plan.children[place] and not sim.heard
         if sim is not hostile:
-            wrong += sim.wrong + ([] if sim.stopped or plan.is_absent else [f"{sim.name} wasn't told to stop"])
+            is_right = sim.stopped or plan.is_absent or is_untaken
+            wrong += sim.wrong + ([] if is_right else [f"{sim.name} wasn't told to stop"])
     return [f"session {seed}: {', '.join(wrong)}; {plan}; {hostile.moment}; {described(act)}"] if wrong else []
 
 

@@ -1,11 +1,12 @@
 #!/usr/bin/env python3
 """Tries a built program with hostile inputs, hostile simulators and a failing system, drawn by a seed.
 
-    run_hostile.py PROGRAM [--count N] [--seed S] [--jobs J] [--kind inputs|sessions|faults]
+    run_hostile.py PROGRAM [--count N] [--seed S] [--jobs J] [--kind KIND]
 
 `inputs` are changed records, scenarios, watches and pairs of these, by every command on files. `sessions` are simulators on
-real sockets that say what they may not. `faults` are calls of the system that fail once each. Without `--kind` it tries all
-three, each so many times. What is wrong is printed, of inputs in its least form as stored cases. It needs `cc`, and ends
+real sockets that say what they may not. `faults` are calls of the system that fail once each. `surroundings` are short
+reads and writes, clocks that jump, few files, stopped programs, and no HOME or /dev/shm. Without `--kind` it tries all
+four, each so many times. What is wrong is printed, of inputs in its least form as stored cases. It needs `cc`, and ends
 with 'N passed, M failed'.
 """
 
@@ -20,9 +21,9 @@ sys.path.insert(0, str(CHECKS))
 
 
 def main() -> int:
-    from hostile import faults, inputs, sessions
+    from hostile import faults, inputs, sessions, surroundings
 
-    kinds = {"inputs": inputs.try_all, "sessions": sessions.try_all, "faults": faults.try_all}
+    kinds = {"inputs": inputs, "sessions": sessions, "faults": faults, "surroundings": surroundings}
     parser = argparse.ArgumentParser(description=__doc__, formatter_class=argparse.RawDescriptionHelpFormatter)
     parser.add_argument("program", type=pathlib.Path)
     parser.add_argument("--count", type=int, default=1000)
@@ -31,9 +32,9 @@ def main() -> int:
     parser.add_argument("--kind", choices=sorted(kinds))
     asked = parser.parse_args()
     right = wrong = 0
-    for name, try_all in kinds.items():
+    for name, kind in kinds.items():
         if asked.kind in (None, name):
-            some = try_all(str(asked.program.resolve()), asked.count, asked.seed, asked.jobs)
+            some = kind.try_all(str(asked.program.resolve()), asked.count, asked.seed, asked.jobs)
             right, wrong = right + some[0], wrong + some[1]
     print(f"{right} passed, {wrong} failed")
     return 1 if wrong or not right else 0
