@@ -148,6 +148,19 @@ class Data(Folder):
         self.assertEqual(numbers(counter["times"]), [2, 1])
         self.assertEqual((counter["series"][0]["first"], numbers(counter["series"][0]["values"])), (1, [300]))
 
+    def test_answers_of_other_shapes(self) -> None:
+        """Answers that have other names than the first one, or what is no object, give what they have."""
+        second = 'got [0,[1,6,{"0":{"out":300}}]]'
+        shapes = {'{}': [7], '{"0":{}}': [7], '{"0":5}': [7], '{"1":{"out":1}}': [7], '{"0":{"in":1}}': [7], '5': [7]}
+        shapes.update({'{"0":{"out":1,"in":2},"1":{"out":3}}': [7, 1], '{"0":{"out":null}}': [0, 1]})
+        for shape, values in shapes.items():
+            with self.subTest(shape=shape):
+                _, shown = gather.gather(self.save(RECORD.replace(second, f"got [0,[1,6,{shape}]]")))
+                series = shown["samples"][0]["series"]
+                self.assertEqual([(one["entity"], one["attribute"]) for one in series], [("A-0.0", "out")])
+                self.assertEqual(numbers(series[0]["values"]), values)
+                self.assertEqual((shown["messages"], shown["missing"]), (10, []))
+
     def test_packed(self) -> None:
         for values, kind in [([], "i8"), ([-128, 127], "i8"), ([128], "i16"), ([1 << 31], "f64"), ([-(1 << 31)], "i32")]:
             column = gather.packed(values)
@@ -273,6 +286,15 @@ class WithProgram(Folder):
         trouble = self.data(made)["records"][0]["trouble"][0]
         self.assertEqual((status, trouble["line"], trouble["text"]), (0, "run 1: A-0 message 2 cause 2", "got [0,[1,5,0.5]]"))
         self.assertIn("whole", trouble["short"])
+
+    def test_wrong_outputs(self) -> None:
+        """Outputs that are no object are the message that is named."""
+        text = RECORD.replace('got [0,[1,6,{"0":{"out":300}}]]', "got [0,[1,6,5]]")
+        status, _, made = self.run_view(self.save(text))
+        record = self.data(made)["records"][0]
+        trouble = record["trouble"][0]
+        self.assertEqual((status, trouble["line"], trouble["text"]), (0, "run 1: A-0 message 3 cause 5", "got [0,[1,6,5]]"))
+        self.assertEqual((trouble["place"], record["missing"]), (11, []))
 
     def test_damaged(self) -> None:
         for text in ["\0\1\2 damaged", "", RECORD.replace("conn [0", "conn {0"), RECORD.replace("end 16", "end 3")]:

@@ -134,7 +134,7 @@ def trouble(gathering: Gathering, path: str, line: str, status: int) -> Dict[str
     if place >= 0:
         found.update(place=place, text=text_at(path, gathering.first_line + place))
     if line.startswith(("run 8", "limit")):
-        asked = gathering.reader.unfinished()
+        asked = gathering.unfinished()
         found["open"] = [{"simulator": ask.simulator, "time": ask.time, "tier": ask.tier} for ask in asked]
     return found
 
