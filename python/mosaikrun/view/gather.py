@@ -32,7 +32,7 @@ Packed = Dict[str, Any]
 
 
 def packed(numbers: Sequence[Union[int, float]]) -> Packed:
-    """A column of numbers for the page; whole numbers beyond 32 bits become floats."""
+    """A column of numbers for the page; where any is a fraction or beyond 32 bits, all become floats."""
     kind, column = smallest(numbers)
     if sys.byteorder == "big":
         column.byteswap()
@@ -42,7 +42,7 @@ def packed(numbers: Sequence[Union[int, float]]) -> Packed:
 def smallest(numbers: Sequence[Union[int, float]]) -> Tuple[str, array]:
     """The column of the smallest kind that holds these numbers, and the kind's name."""
     for letter, kind in KINDS:
-        with contextlib.suppress(OverflowError):
+        with contextlib.suppress(OverflowError, TypeError):
             return kind, array(letter, numbers)
     return "f64", array("d", map(float, numbers))
 
