@@ -18,7 +18,7 @@ KINDS = {0: "request", 1: "reply", 2: "failure"}
 # what json and the shape of a line may raise
 UNREADABLE = (AttributeError, IndexError, KeyError, RecursionError, TypeError, ValueError)
 # so many bytes of lines are read together
-BLOCK = 1 << 16
+BLOCK = 1 << 15
 
 
 class NoRecord(ValueError):
