@@ -5,8 +5,8 @@
 where they are missing, and starts them with files and ports of its own. What is tried: a sweep by `--slurm` has the
 table of one on this machine; one that is stopped by Ctrl-C saves its records and goes on; `--no-wait` comes back, and
 the same command gathers; a job that is cancelled from outside is made again; options of sbatch reach the job. Then
-1,000 runs of a small study are timed: by the bare program, by the sweep here, and by Slurm. `run_slurm.py PROGRAM N`
-times N runs. The last line is 'N passed, M failed'.
+1,000 runs of a small study are timed: by the bare program, by the sweep here, and by Slurm in many tasks and in one.
+`run_slurm.py PROGRAM N` times N runs. The last line is 'N passed, M failed'.
 """
 
 from __future__ import annotations
@@ -248,12 +248,14 @@ class Trial:
             self.rate(count, time.monotonic() - began)
         sets = ["--set", f"entities.houses.params.start=0..{count - 1}"]
         many = ["--jobs", str(jobs)]
-        for name, words in {"here": many, "again": [], "by Slurm": [*many, "--slurm"]}.items():
-            out = "slurm" if words[2:] else "local"
+        ways = {"here": many, "again": [], "by Slurm": [*many, "--slurm"], "by Slurm in one task": [*many, "--slurm", "--tasks", "1"]}
+        for name, words in ways.items():
+            out = "one" if "--tasks" in words else "slurm" if words[2:] else "local"
             ran = self.sweep("small.toml", "--out", out, *sets, *words)
             self.equal(f"{count} runs of a sweep, {name}", (ran.status, len(self.table(out))), (0, count))
             self.rate(count, ran.seconds)
-        self.equal("both tables are the same", self.table("slurm"), self.table("local"))
+        for out in ("slurm", "one"):
+            self.equal("the tables are the same", self.table(out), self.table("local"))
 
     @staticmethod
     def rate(count: int, seconds: float) -> None:

@@ -17,12 +17,21 @@ import signal
 import subprocess
 import sys
 import time
-from typing import Any, Callable, NoReturn, Optional
+from typing import Any, Callable, NamedTuple, NoReturn, Optional
 
 from mosaikrun import runs
 
 LONGEST = 10  # seconds between two looks at the queue
 DEFAULT_ARRAY = 1001  # Slurm's MaxArraySize where it isn't set
+
+
+class Wanted(NamedTuple):
+    """How runs are made by Slurm: so many at once in each task, at most so many tasks, options of sbatch, no waiting."""
+
+    jobs: int
+    tasks: int
+    options: list[str]
+    leave: bool
 
 
 class Missing(Exception):
@@ -86,14 +95,14 @@ def last(text: str) -> str:
     return (text.strip() or "it failed").splitlines()[-1]
 
 
-def submit(study: runs.Study, todo: list[str], jobs: int, options: list[str]) -> str:
+def submit(study: runs.Study, todo: list[str], wanted: Wanted) -> str:
     """Writes the job script and hands it over; the job's number."""
-    tasks = min(largest_array(), math.ceil(len(todo) / jobs))
+    tasks = min(largest_array(), wanted.tasks, math.ceil(len(todo) / wanted.jobs))
     folder = study.folder / "slurm"
     folder.mkdir(exist_ok=True)
-    shares = {"jobs": jobs, "runs": [todo[task::tasks] for task in range(tasks)]}
+    shares = {"jobs": wanted.jobs, "runs": [todo[task::tasks] for task in range(tasks)]}
     runs.written(folder / "tasks.json", json.dumps(shares) + "\n")
-    runs.written(folder / "job.sh", script(study, tasks, jobs, options))
+    runs.written(folder / "job.sh", script(study, tasks, wanted.jobs, wanted.options))
     done = slurm("sbatch", "--parsable", str(folder / "job.sh"))
     if done.returncode:
         line = last(done.stderr)
@@ -103,17 +112,15 @@ def submit(study: runs.Study, todo: list[str], jobs: int, options: list[str]) ->
     return job
 
 
-def by_slurm(
-    study: runs.Study, todo: list[str], jobs: int, options: list[str], leave: bool, say: Callable[[str], None]
-) -> Optional[str]:
+def by_slurm(study: runs.Study, todo: list[str], wanted: Wanted, say: Callable[[str], None]) -> Optional[str]:
     """Makes these runs as a job array, and waits for its end; what is still to come, where it isn't waited for."""
     job = job_of(study.folder)
     if job:
         say(f"job {job} was submitted before")
     elif todo:
-        job = submit(study, todo, jobs, options)
+        job = submit(study, todo, wanted)
         say(f"job {job} is submitted: {len(todo)} runs, {study.folder / 'slurm' / 'job.sh'}")
-    if job and leave:
+    if job and wanted.leave:
         return f"job {job} makes the runs; the same command gathers the table"
     try:
         await_end(study.folder, math.inf)

@@ -17,6 +17,8 @@ from typing import Any, BinaryIO, Dict, Iterable, Iterator, List, NamedTuple, Op
 KINDS = {0: "request", 1: "reply", 2: "failure"}
 # what json and the shape of a line may raise
 UNREADABLE = (AttributeError, IndexError, KeyError, RecursionError, TypeError, ValueError)
+# so many bytes of lines are read together
+BLOCK = 1 << 15
 
 
 class NoRecord(ValueError):
@@ -216,26 +218,61 @@ class RecordReader:
 
     def __iter__(self) -> Iterator[Entry]:
         """The entries, in order."""
-        decode = json.JSONDecoder().raw_decode
-        for self.line, line in enumerate(self._lines, 2):
-            is_entry = line.startswith((b"got ", b"ask "))
+        for first, block in self.blocks():
+            pairs = iter(block)
+            for self.line, (is_message, part) in enumerate(zip(pairs, pairs), first):
+                try:
+                    yield self._message(*part) if is_message else self._ask(*part)
+                except UNREADABLE:
+                    self.leave_out(self.line)
+
+    def blocks(self) -> Iterator[Tuple[int, List[Any]]]:
+        """The entries as they stand in their lines, many at a time, for who reads very many: an iterator of blocks.
+
+        A block has the number of its first line, and for each line two items: whether it is a message, as 1 or 0, and
+        its value. `unfinished` knows nothing of what was read so. Who can't take a value says so by `leave_out`.
+        """
+        number = self.line + 1
+        for text in texts_of(self._lines):
+            yield from self._block(number, text)
+            number += text.count(b"\n")
+
+    def leave_out(self, number: int) -> None:
+        """The line of this number can't be read."""
+        self.missing.append(f"line {number} is cut, or is none of a record: left out")
+
+    def _block(self, number: int, text: bytes) -> Iterator[Tuple[int, List[Any]]]:
+        """Blocks of lines, of which the first has this number: one where all can be read together, or those of halves."""
+        middle = text.find(b"\n", len(text) // 2) + 1
+        if middle in (0, len(text)):
+            middle = text.find(b"\n") + 1
+        is_one = middle in (0, len(text))
+        found = self._alone(number, text) if is_one else together(text)
+        if found:
+            self.line = number
+            self._entries += len(found) // 2
+            yield number, found
+        elif not is_one:
+            yield from self._block(number, text[:middle])
+            yield from self._block(number + text.count(b"\n", 0, middle), text[middle:])
+
+    def _alone(self, number: int, line: bytes) -> List[Any]:
+        """What a block has of this line, if it is an entry; else it is a part of the plan, or the end."""
+        self.line = number
+        is_entry = line.startswith((b"got ", b"ask "))
+        try:
+            word, _, rest = line.decode().partition(" ")
+            part = loaded(rest)
+            if is_entry:
+                return [int(word == "got"), part]
+            if word == "end":
+                self._end = int(part)
+            else:
+                self._add(word, part)
+        except UNREADABLE:
             self._entries += is_entry
-            try:
-                text = line.decode()
-                if is_entry:
-                    part, stop = decode(text, 4)
-                    if text[stop:] != "\n":
-                        part = loaded(text[4:])
-                    yield self._message(*part) if text[0] == "g" else self._ask(*part)
-                else:
-                    word, _, rest = text.partition(" ")
-                    part = loaded(rest)
-                    if word == "end":
-                        self._end = int(part)
-                    else:
-                        self._add(word, part)
-            except UNREADABLE:
-                self.missing.append(f"line {self.line} is cut, or is none of a record: left out")
+            self.leave_out(number)
+        return []
 
     def ending(self) -> List[str]:
         """What the end of the record lacks."""
@@ -313,6 +350,34 @@ def loaded(text: str) -> Any:
     if not text.endswith("\n"):
         raise Cut
     return json.loads(text)
+
+
+def texts_of(lines: Iterable[bytes]) -> Iterator[bytes]:
+    """The lines, many at a time where they are a file's."""
+    if not hasattr(lines, "read"):
+        yield from lines
+        return
+    while True:
+        text = lines.read(BLOCK)
+        if not text:
+            return
+        yield text + lines.readline()
+
+
+def together(text: bytes) -> List[Any]:
+    """The items of a block with these lines, read as one JSON list; none where a line is no entry, or can't be read.
+
+    A value that goes over the end of a line makes fewer items than the lines have.
+    """
+    try:
+        lines = "\n" + text.decode()
+        count = lines.count("\n") - 1
+        if lines.count("\ngot ") + lines.count("\nask ") != count or lines[-1] != "\n":
+            return []
+        items = json.loads("[" + lines.replace("\ngot ", ",\n1,").replace("\nask ", ",\n0,")[1:] + "]")
+    except UNREADABLE:
+        return []
+    return items if len(items) == 2 * count else []
 
 
 def read_record(record: Union[str, os.PathLike, BinaryIO]) -> Record:

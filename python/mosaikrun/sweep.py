@@ -194,6 +194,7 @@ def parser() -> argparse.ArgumentParser:
     add("--jobs", type=int, metavar="N", help="runs side by side, on each machine; default: its processors")
     add("--watch", type=pathlib.Path, metavar="FILE", help="watches whose values come into the table")
     add("--slurm", action="store_true", help="run as a job array of Slurm")
+    add("--tasks", type=int, metavar="N", help="with --slurm: tasks of the array at most; default: as all runs at once need")
     add("--sbatch", action="append", default=[], metavar="OPTION", help="an option of sbatch, as --sbatch=--time=60")
     add("--no-wait", action="store_true", help="with --slurm: come back once the jobs are submitted")
     add("--dask", metavar="ADDRESS", help="run by dask.distributed, its scheduler at this address")
@@ -204,8 +205,10 @@ def asked(words: argparse.Namespace, sweep: Sweep) -> int:
     """How many runs go side by side; words that don't go together are refused."""
     if words.slurm and words.dask:
         raise Refused("--slurm and --dask can't both be: one of them")
-    if (words.sbatch or words.no_wait) and not words.slurm:
-        raise Refused("--sbatch and --no-wait go with --slurm")
+    if (words.sbatch or words.no_wait or words.tasks is not None) and not words.slurm:
+        raise Refused("--sbatch, --tasks and --no-wait go with --slurm")
+    if words.tasks is not None and words.tasks < 1:
+        raise Refused(f"--tasks {words.tasks}: from 1")
     if words.jobs is not None and not 1 <= words.jobs <= 1000:
         raise Refused(f"--jobs {words.jobs}: from 1 to 1000")
     reached = sweep.simulators("connect")
@@ -217,7 +220,8 @@ def asked(words: argparse.Namespace, sweep: Sweep) -> int:
 def ran(words: argparse.Namespace, study: runs.Study, todo: list[str], jobs: int, tell: Teller) -> Optional[str]:
     """Makes these runs in the way that was asked for; gives what is still to come, where it isn't waited for."""
     if words.slurm:
-        return cluster.by_slurm(study, todo, jobs, words.sbatch, words.no_wait, say)
+        wanted = cluster.Wanted(jobs, words.tasks or len(todo), words.sbatch, words.no_wait)
+        return cluster.by_slurm(study, todo, wanted, say)
     if words.dask and todo:
         cluster.by_dask(study, todo, words.dask, tell)
     elif todo:

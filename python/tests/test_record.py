@@ -50,6 +50,21 @@ def read(text: bytes) -> records.Record:
 class OfRecords(unittest.TestCase):
     """What is read of a record."""
 
+    def test_many_lines_at_a_time(self) -> None:
+        """Lines that are read together give what they give one by one, also where some can't be read."""
+        middle = ENTRIES.splitlines(keepends=True)[2:4] * 4000
+        for spoiled in ("", "got [0,[1,3,4]\n", "got [0,\n", '"\n', "got [0,[1,5,6]],1,[0,[1,5,6]]\n", "sim 5\n", "\n", "got [9,[1,3,4]]\n"):
+            with self.subTest(spoiled=spoiled):
+                lines = [*middle[:3000], *spoiled.splitlines(keepends=True), *middle[3000:]]
+                text = PLAN + ENTRIES.partition("got")[0] + "".join(lines) + f"end {len(middle) + 1}\n"
+                self.assertGreater(len(text), 2 * records.BLOCK)
+                alone = records.RecordReader(text.encode().splitlines(keepends=True))
+                entries, record = list(alone), read(text.encode())
+                self.assertEqual(record.entries, entries)
+                self.assertEqual(len(entries), len(middle) + 1)
+                self.assertEqual(record.missing, alone.missing + alone.ending())
+                self.assertEqual(bool(record.missing), bool(spoiled))
+
     def test_plan(self) -> None:
         """The plan has its parts, with their names."""
         record = read(WHOLE.encode())

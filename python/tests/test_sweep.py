@@ -349,7 +349,9 @@ class Sweeps(unittest.TestCase):
             ([study, "--watch", str(self.folder / "no.watch")], "no.watch: No such file"),
             ([study, "--jobs", "0"], "--jobs 0: from 1 to 1000"),
             ([study, "--slurm", "--dask", "127.0.0.1:1"], "--slurm and --dask can't both be"),
-            ([study, "--no-wait"], "--sbatch and --no-wait go with --slurm"),
+            ([study, "--no-wait"], "--sbatch, --tasks and --no-wait go with --slurm"),
+            ([study, "--tasks", "2"], "--sbatch, --tasks and --no-wait go with --slurm"),
+            ([study, "--slurm", "--tasks", "0"], "--tasks 0: from 1"),
             (
                 [str(self.folder / "connected.toml"), "--jobs", "2"],
                 "Counter is reached by connect, so it serves one run",

@@ -8,6 +8,8 @@ import sys
 from typing import Any, Dict, List, Optional
 
 from mosaikrun.errors import ProgramMissing
+from mosaikrun.view.clock import add_clock, folder_for
+from mosaikrun.view.gather import Gathering
 from mosaikrun.view.page import page
 from mosaikrun.view.trouble import Refused, compared, gathered
 
@@ -21,11 +23,17 @@ def arguments(words: Optional[List[str]]) -> argparse.Namespace:
         prog="python -m mosaikrun.view",
         description="Makes one HTML page of a record that `mosaikrun run SCENARIO --record FILE` saved: the graph of "
         "simulators, their steps, all values over time, and what went wrong. It needs no network. Of two records of "
-        "one plan it also shows who answered otherwise.",
+        "one plan it also shows who answered differently.",
     )
     parser.add_argument("record", metavar="RECORD", help="the record")
     parser.add_argument("second", metavar="SECOND", nargs="?", help="another record of the same plan, to compare")
     parser.add_argument("-o", "--output", metavar="FILE", help="the page; default: the record's name and .html")
+    parser.add_argument(
+        "--times",
+        metavar="FOLDER",
+        help="where the record's simulators noted when their steps began and ended; default: the record's name and "
+        ".times, where that is there",
+    )
     parser.add_argument(
         "--limit", metavar="BYTES", type=int, default=LIMIT, help="refuse longer records; default %(default)s"
     )
@@ -47,16 +55,27 @@ def look_at(path: str, limit: int) -> None:
         )
 
 
-def make(first: str, second: Optional[str], limit: int) -> Dict[str, Any]:
+def make(first: str, second: Optional[str], limit: int, times: Optional[str] = None) -> Dict[str, Any]:
     """The data of the page."""
     paths = [path for path in (first, second) if path is not None]
     for path in paths:
         look_at(path, limit)
     found = [gathered(path) for path in paths]
     data: Dict[str, Any] = {"records": [shown for _, shown in found]}
+    add_times(data, found[0][0], first, times)
     if second is not None:
         data["blame"] = compared(first, second, [gathering for gathering, _ in found])
     return data
+
+
+def add_times(data: Dict[str, Any], gathering: Gathering, record: str, folder: Optional[str]) -> None:
+    """Adds when the steps of the first record began and ended, where that was noted; says which notes don't fit."""
+    if folder and not os.path.isdir(folder):
+        raise Refused(f"{folder}: this is no folder")
+    found = folder_for(record, folder)
+    if found:
+        for line in add_clock(gathering, data["records"][0], found):
+            print(f"mosaikrun.view: {line}", file=sys.stderr)
 
 
 def main(words: Optional[List[str]] = None) -> int:
@@ -64,7 +83,7 @@ def main(words: Optional[List[str]] = None) -> int:
     asked = arguments(words)
     output = asked.output or os.path.splitext(os.path.basename(asked.record))[0] + ".html"
     try:
-        data = make(asked.record, asked.second, asked.limit)
+        data = make(asked.record, asked.second, asked.limit, asked.times)
         if any(os.path.exists(output) and os.path.samefile(output, one) for one in (asked.record, asked.second) if one):
             raise Refused(f"{output}: the page would be written over a record; name it by -o")
         with open(output, "w", encoding="utf-8") as file:

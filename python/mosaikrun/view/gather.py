@@ -7,18 +7,22 @@ unpacks a column when it is looked at.
 from __future__ import annotations
 
 import base64
+import contextlib
 import gc
 import json
 import os
 import sys
 import zlib
 from array import array
-from typing import Any, Dict, Iterator, List, Optional, Sequence, Set, Tuple, Union
+from operator import itemgetter
+from typing import Any, Callable, Dict, Iterable, Iterator, List, Optional, Sequence, Set, Tuple, Union
 
-from mosaikrun.record import Ask, Message, Plan, RecordReader
+from mosaikrun.record import UNREADABLE, Ask, Plan, RecordReader
 
-# kinds of numbers of a column: the letter that module `array` has for it, and its least and greatest number
-KINDS = [("b", 8), ("h", 16), ("i", 32)]
+# kinds of whole numbers of a column, the smallest first: the letter that module `array` has for it, and its name
+KINDS = [("b", "i8"), ("h", "i16"), ("i", "i32")]
+# what a simulator's next reply answers
+NOTHING, STEP, DATA = 0, 1, 2
 # so many different texts of one attribute are told apart
 TEXTS = 200
 # so many characters of a text are kept
@@ -28,14 +32,19 @@ Packed = Dict[str, Any]
 
 
 def packed(numbers: Sequence[Union[int, float]]) -> Packed:
-    """A column of numbers for the page; whole numbers beyond 32 bits become floats."""
-    least, greatest = (min(numbers), max(numbers)) if numbers else (0, 0)
-    fitting = [(letter, bits) for letter, bits in KINDS if -(1 << bits - 1) <= least and greatest < 1 << bits - 1]
-    letter, kind = (fitting[0][0], f"i{fitting[0][1]}") if fitting else ("d", "f64")
-    column = array(letter, numbers if fitting else map(float, numbers))
+    """A column of numbers for the page; where any is a fraction or beyond 32 bits, all become floats."""
+    kind, column = smallest(numbers)
     if sys.byteorder == "big":
         column.byteswap()
     return {"kind": kind, "count": len(column), "data": base64.b64encode(zlib.compress(column.tobytes(), 1)).decode()}
+
+
+def smallest(numbers: Sequence[Union[int, float]]) -> Tuple[str, array]:
+    """The column of the smallest kind that holds these numbers, and the kind's name."""
+    for letter, kind in KINDS:
+        with contextlib.suppress(OverflowError, TypeError):
+            return kind, array(letter, numbers)
+    return "f64", array("d", map(float, numbers))
 
 
 def short(value: Any) -> str:
@@ -86,15 +95,34 @@ class Samples:
         for entity, attributes in values.items():
             if type(attributes) is not dict:
                 continue
-            series = self.series.setdefault(entity, {})
             for attribute, value in attributes.items():
-                if attribute not in series:
-                    kept = taken is None or (entity, attribute) in taken
-                    series[attribute] = Series(number) if kept else None
-                column = series[attribute]
+                column = self.column(entity, attribute, number, taken)
                 if column is not None:
                     column.samples.append(number)
                     column.values.append(value)
+
+    def add_alike(self, steps: List[List[int]], answers: List[Dict[str, Any]], taken: Set[Tuple[str, str]]) -> bool:
+        """Adds the answers to these steps attribute by attribute, if all have the same ones and no time; else none."""
+        found = alike(answers)
+        if found is None:
+            return False
+        first = len(self.times)
+        numbers = list(range(first, first + len(answers)))
+        self.times.extend([step[1] for step in steps])
+        self.tiers.extend([step[2] for step in steps])
+        for entity, attribute, values in found:
+            column = self.column(entity, attribute, first, taken)
+            if column is not None:
+                column.samples.extend(numbers)
+                column.values.extend(values)
+        return True
+
+    def column(self, entity: str, attribute: str, first: int, taken: Optional[Set[Tuple[str, str]]]) -> Optional[Series]:
+        """The series of an attribute, made where it isn't there; None where the attribute isn't taken."""
+        series = self.series.setdefault(entity, {})
+        if attribute not in series:
+            series[attribute] = Series(first) if taken is None or (entity, attribute) in taken else None
+        return series[attribute]
 
     def columns(self) -> Iterator[Tuple[str, str, Series]]:
         """The series, each with its entity and attribute."""
@@ -102,6 +130,25 @@ class Samples:
             for attribute, column in attributes.items():
                 if column is not None:
                     yield entity, attribute, column
+
+
+def alike(answers: List[Dict[str, Any]]) -> Optional[List[Tuple[str, str, List[Any]]]]:
+    """The entities and attributes that all of these answers have, with the values; None where they have different ones."""
+    found: List[Tuple[str, str, List[Any]]] = []
+    count = len(answers)
+    try:
+        # who has each of so many names and no more has these names
+        if sum(map(len, answers)) != len(answers[0]) * count:
+            return None
+        for entity, attributes in answers[0].items():
+            inner = list(map(itemgetter(entity), answers))
+            found += [(entity, name, list(map(itemgetter(name), inner))) for name in attributes]
+            if sum(map(len, inner)) != len(attributes) * count:
+                return None
+    except (KeyError, TypeError):
+        # a name is missing, or what should have names is a number, a text or a list
+        return None
+    return found
 
 
 class Turns:
@@ -112,13 +159,18 @@ class Turns:
     def __init__(self) -> None:
         self.columns: Dict[str, List[int]] = {name: [] for name in self.COLUMNS}
 
-    def start(self, simulator: int, ask: Ask, place: int, after: int) -> int:
-        """A simulator was asked for a step; gives the turn's number."""
-        columns = self.columns
-        begun = (simulator, ask.time, ask.tier, ask.max_advance, place, -1, -1, -1, after, 0)
-        for name, value in zip(self.COLUMNS, begun):
-            columns[name].append(value)
-        return len(columns["time"]) - 1
+    def room(self, count: int) -> None:
+        """Makes room for so many turns of which nothing has come."""
+        for name, nothing in (("replied", -1), ("ended", -1), ("next", -1), ("requests", 0)):
+            self.columns[name].extend([nothing] * count)
+
+    def asked(self, asks: List[List[int]]) -> None:
+        """Adds turns: each has its simulator, time, tier, `max_advance`, place, and the turn that it came after."""
+        names = ("simulator", "time", "tier", "advance", "asked", "after")
+        for name, column in zip(names, zip(*asks)):
+            self.columns[name].extend(column)
+        for name in ("replied", "ended", "next", "requests"):
+            del self.columns[name][len(self.columns["time"]) :]
 
 
 class Gathering:
@@ -134,73 +186,147 @@ class Gathering:
         self.messages: Dict[str, array] = {}
         self.first_line = 0
         self.entries = 0
-        self._turn: Dict[str, int] = {}
+        # by number: what notes a place of a simulator's message, its last turn, and what its next reply answers
+        self._said: Dict[int, Callable[[int], None]] = {}
+        self._turn: Dict[int, int] = {}
+        self._awaited: Dict[int, int] = {}
+        # by number what a reply answers after that to a step, once the step was answered
+        self._then: Dict[int, int] = {}
+        # by number what each simulator was asked last, in the order in which they were first asked
+        self._ask: Dict[int, List[int]] = {}
         self._last = -1
-        self._number: Dict[str, int] = {}
+        # of a block: what was asked, and by number the steps that were answered with data, and these
+        self._asks: List[List[int]] = []
+        self._answers: Dict[int, Tuple[List[List[int]], List[Dict[str, Any]]]] = {}
 
     def read(self) -> None:
         """Reads the record to its end."""
         collects = gc.isenabled()
         gc.disable()
         try:
-            for entry in self.reader:
+            for line, block in self.reader.blocks():
                 if not self.first_line:
-                    self.first_line = self.reader.line
-                    self._number = {sim.id: number for number, sim in enumerate(self.reader.plan.simulators)}
-                place = self.reader.line - self.first_line
-                self.entries = place + 1
-                if isinstance(entry, Ask):
-                    turn = self.turns.start(self._number[entry.simulator], entry, place, self._last)
-                    self._turn[entry.simulator] = turn
-                else:
-                    self._message(entry, place)
+                    self._begin(line)
+                self._take(line - self.first_line, block)
         finally:
             if collects:
                 gc.enable()
 
-    def _message(self, message: Message, place: int) -> None:
-        """A simulator said something."""
-        name, columns = message.simulator, self.turns.columns
-        self.messages.setdefault(name, array("q")).append(place)
-        turn = self._turn.get(name, -1)
-        if turn < 0 or message.step is None:
-            return
-        self._last = turn
-        if message.kind == "request":
+    def unfinished(self) -> List[Ask]:
+        """The steps that weren't at their end when the record ended."""
+        return [Ask(self._name(number), *ask[1:4]) for number, ask in self._ask.items() if self._awaited[number]]
+
+    def _name(self, number: int) -> str:
+        """The id of the simulator of this number."""
+        return self.reader.plan.simulators[number].id
+
+    def _begin(self, line: int) -> None:
+        """The entries begin at this line."""
+        self.first_line = line
+        numbers = range(len(self.reader.plan.simulators))
+        self.messages = {self._name(number): array("q") for number in numbers}
+        self._said = {number: self.messages[self._name(number)].append for number in numbers}
+        self._turn = dict.fromkeys(numbers, -1)
+        self._awaited = dict.fromkeys(numbers, NOTHING)
+        self._then = {number: DATA if self._name(number) in self.reader.taken else NOTHING for number in numbers}
+
+    def _take(self, place: int, block: List[Any]) -> None:
+        """Takes the entries of a block, of which the first has this place."""
+        self.turns.room(block[::2].count(0))
+        self._asks, self._answers = [], {}
+        pairs = iter(block)
+        entries = enumerate(zip(pairs, pairs), place)
+        while not self._took(entries):
+            pass
+        self.turns.asked(self._asks)
+        for number, (steps, answers) in self._answers.items():
+            name = self._name(number)
+            samples = self.given.setdefault(name, Samples())
+            if not samples.add_alike(steps, answers, self.reader.taken[name]):
+                add_apart(samples, steps, answers, self.reader.taken[name])
+
+    def _took(self, entries: Iterator[Tuple[int, Tuple[int, Any]]]) -> bool:
+        """Takes entries, each with its place, up to one that can't be read, which is left out; whether there is none."""
+        columns, asks, turn_of, ask_of = self.turns.columns, self._asks, self._turn, self._ask
+        replied, ended, following = columns["replied"], columns["ended"], columns["next"]
+        said, awaited, then, last, place = self._said, self._awaited, self._then, self._last, self.entries - 1
+        begun = len(columns["time"]) + len(asks)
+        try:
+            for place, (is_message, part) in entries:
+                if is_message:
+                    number, (kind, identity, content) = part
+                    said[number](place)
+                    turn = turn_of[number]
+                    if turn < 0:
+                        continue
+                    last = turn
+                    if kind != 1:
+                        self._special(place, number, kind, identity, content)
+                        continue
+                    ended[turn] = place
+                    if awaited[number] == STEP:
+                        awaited[number] = then[number]
+                        replied[turn] = place
+                        if type(content) is int:
+                            following[turn] = content
+                    elif awaited[number]:
+                        awaited[number] = NOTHING
+                        self._given(number, content)
+                else:
+                    number, _, _, _ = part
+                    turn_of[number], awaited[number] = begun, STEP
+                    begun += 1
+                    ask_of[number] = part
+                    part += (place, last)
+                    asks.append(part)
+            return True
+        except UNREADABLE:
+            self.reader.leave_out(self.first_line + place)
+            return False
+        finally:
+            self._last, self.entries = last, place + 1
+
+    def _special(self, place: int, number: int, kind: int, identity: int, content: Any) -> None:
+        """A simulator sent a request, or a failure."""
+        columns, turn = self.turns.columns, self._turn[number]
+        if kind == 0:
             columns["requests"][turn] += 1
-            self._setting(message)
-            return
-        columns["ended"][turn] = place
-        if message.answers == "step":
-            columns["replied"][turn] = place
-            if message.kind == "reply" and type(message.content) is int:
-                columns["next"][turn] = message.content
-        elif message.answers == "data" and message.kind == "reply":
-            self._data(message)
+            self._setting(number, identity, content)
+        elif kind == 2:
+            columns["ended"][turn] = place
+            if self._awaited[number] == STEP:
+                columns["replied"][turn] = place
+        else:
+            raise ValueError
 
-    def _data(self, message: Message) -> None:
-        """A simulator gave its outputs: those that some connection takes are kept."""
-        taken, content = self.reader.taken[message.simulator], message.content
-        samples = self.given.get(message.simulator)
-        if samples is None:
-            samples = self.given[message.simulator] = Samples()
-        late = content.get("time")
-        time, tier = message.step.time, message.step.tier
-        if type(late) is int and late > time:
-            time, tier = late, 0
-        samples.add(time, tier, content, taken)
+    def _given(self, number: int, content: Any) -> None:
+        """A simulator gave its outputs; what is no object was a wrong message."""
+        if type(content) is dict:
+            steps, answers = self._answers.setdefault(number, ([], []))
+            steps.append(self._ask[number])
+            answers.append(content)
 
-    def _setting(self, message: Message) -> None:
+    def _setting(self, number: int, identity: int, content: Any) -> None:
         """A simulator set data in others: kept under the entity in which they are set, and where they come from."""
-        content = message.content
-        if not (isinstance(content, list) and len(content) > 1 and content[0] == "set_data" and len(content[1]) == 1):
+        if not (isinstance(content, list) and len(content) > 1 and content[0] == "set_data"):
+            return
+        if not (isinstance(content[1], list) and len(content[1]) == 1):
             return
         found: Dict[str, Dict[str, Any]] = {}
         for source, entities in content[1][0].items() if isinstance(content[1][0], dict) else ():
             for entity, attributes in entities.items() if isinstance(entities, dict) else ():
                 for attribute, value in attributes.items() if isinstance(attributes, dict) else ():
                     found.setdefault(entity, {})[f"{attribute} set by {source}"] = value
-        self.settings.setdefault(message.simulator, []).append((message.step.time + 1, message.id, found))
+        self.settings.setdefault(self._name(number), []).append((self._ask[number][1] + 1, identity, found))
+
+
+def add_apart(samples: Samples, steps: List[List[int]], answers: List[Dict[str, Any]], taken: Set[Tuple[str, str]]) -> None:
+    """Adds the answers to these steps one by one; one that has a later time counts at that time."""
+    for (_, time, tier, *_), content in zip(steps, answers):
+        late = content.get("time")
+        if type(late) is int and late > time:
+            time, tier = late, 0
+        samples.add(time, tier, content, taken)
 
 
 def plan_of(plan: Plan) -> Dict[str, Any]:

@@ -129,12 +129,12 @@ def trouble(gathering: Gathering, path: str, line: str, status: int) -> Dict[str
     """What went wrong: the line, what the documents say of it, and where it was."""
     known = messages.explanation(line, status)
     short = CUT_SHORT if CUT.fullmatch(line) else known.short if known else ""
-    found: Dict[str, Any] = {"line": line, "status": status, "short": short, "open": []}
+    found: Dict[str, Any] = {"line": line, "status": status, "short": short[:1].upper() + short[1:], "open": []}
     place = place_of(gathering, line)
     if place >= 0:
         found.update(place=place, text=text_at(path, gathering.first_line + place))
     if line.startswith(("run 8", "limit")):
-        asked = gathering.reader.unfinished()
+        asked = gathering.unfinished()
         found["open"] = [{"simulator": ask.simulator, "time": ask.time, "tier": ask.tier} for ask in asked]
     return found
 
@@ -164,7 +164,7 @@ def text_at(path: str, number: int) -> str:
 
 
 def compared(first: str, second: str, gatherings: List[Gathering]) -> Dict[str, Any]:
-    """What the program's `blame` says of two records, and which requests were answered otherwise."""
+    """What the program's `blame` says of two records, and which requests were answered differently."""
     done = program.call("blame", first, second)
     if done.returncode:
         raise Refused(program.line_of(done.stderr, done.returncode), max(done.returncode, 2))

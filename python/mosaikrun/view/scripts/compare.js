@@ -1,4 +1,4 @@
-// What went wrong in a record, and who answered otherwise in the second of two.
+// What went wrong in a record, and who answered differently in the second of two.
 "use strict";
 
 /** A term and what belongs to it, for a list of facts. */
@@ -87,7 +87,7 @@ view.messageDifference = function (first, second) {
 
 view.blamedCard = function (records, one, steps) {
   const cut = text => text.length > 1500 ? text.slice(0, 1500) + "…" : text;
-  const card = view.make("div", {class: "card"}, view.make("h3", {}, `${one.simulator} answered otherwise` + (one.step ? ` in its step ${view.whole(one.step[0])}:${one.step[1]}` : "")),
+  const card = view.make("div", {class: "card"}, view.make("h3", {}, `${one.simulator} answered differently` + (one.step ? ` in its step ${view.whole(one.step[0])}:${one.step[1]}` : "")),
     view.make("p", {}, `It had been sent the same, and had said the same in ${view.plural(one.message, "message")} before.`));
   if (one.request) card.append(view.make("p", {}, "The request:"), view.make("pre", {class: "said"}, cut(one.request)));
   card.append(view.make("div", {class: "pair"}, ...[one.first, one.second].map((text, place) => view.make("div", {},

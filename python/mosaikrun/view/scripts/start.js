@@ -8,7 +8,7 @@ view.head = function ({records, blame}) {
   const [record] = records, state = document.getElementById("state");
   document.getElementById("title").textContent = records.map(one => one.name).join(" and ");
   const bad = records.some(one => one.trouble.length);
-  const text = blame ? (blame.equal ? "equal" : view.plural(blame.blamed.length, "simulator") + " answered otherwise") : bad ? "not at its end" : "whole";
+  const text = blame ? (blame.equal ? "equal" : view.plural(blame.blamed.length, "simulator") + " answered differently") : bad ? "not at its end" : "whole";
   state.textContent = text;
   state.classList.add(bad || blame && !blame.equal ? "bad" : "good");
   document.getElementById("facts").append(view.fact("until", view.whole(record.until)), view.fact("simulators", view.whole(record.simulators.length)),

@@ -1,4 +1,4 @@
-// The steps of each simulator, over the time of the study or in the order of the record, and who waited for whom.
+// The steps of each simulator, over the time of the study, in the order of the record or on a clock, and who waited for whom.
 "use strict";
 
 view.lane = 26;
@@ -15,6 +15,8 @@ view.turnsOf = async function (record) {
     const sim = turns.simulator[turn];
     turns.of[sim][filled[sim]++] = turn;
   }
+  // by simulator those of its turns that have moments
+  turns.noted = turns.of.map(own => turns.begin ? own.filter(turn => turns.begin[turn] === turns.begin[turn]) : own.slice(0, 0));
   let tiers = 0;
   for (let turn = 0; turn < count; turn++) tiers = Math.max(tiers, turns.tier[turn]);
   return Object.assign(turns, {count, tiers: tiers + 1, entries: record.entries});
@@ -33,20 +35,42 @@ view.steps = async function (section, record) {
   section.append(view.make("p", {class: "hint", id: "steps-help"},
     "A row is a simulator, a bar is a step. Tab to the plot; ← and → go from step to step, ↑ and ↓ to another simulator, Enter to the " +
     "step that it waited for; + and − zoom, Shift with ← and → moves, 0 shows all. A click chooses a step."));
-  const choose = view.choice("Along", {time: "Time of the study", order: "Order of the record"}, "time", key => { state.by = key; view.chartWhole(state.plot); state.plot.ask(); });
+  const axis = view.make("p", {class: "soft", id: "steps-axis"}, view.stepsAxes.time);
+  const choose = view.choice("Along", {time: "Time of the study", order: "Order of the record", ...(turns.begin ? {clock: "Clock"} : {})}, "time", key => {
+    state.by = key;
+    axis.textContent = view.stepsAxes[key];
+    view.chartWhole(state.plot);
+    state.plot.ask();
+  });
   state.choose = choose;
   state.plot = view.plot(section, {
-    label: "Steps of each simulator", help: "steps-help", tools: choose,
-    extent: () => state.by === "time" ? [0, view.lastTime(record)] : [0, Math.max(1, turns.entries)],
+    label: "Steps of each simulator", help: "steps-help steps-axis", tools: choose,
+    extent: () => view.stepsExtent(state),
     left: width => Math.min(width < 640 ? 120 : 200, 26 + 7 * d3.max(record.simulators, sim => sim.id.length)), height: () => order.length * view.lane + 6,
     draw: (...all) => view.stepsDraw(state, ...all), key: event => view.stepsKey(state, event),
     point: (x, y, kind) => kind === "click" && view.stepsPick(state, x, y),
   });
   state.told = told;
-  section.append(view.stepsLegend(), told, view.waited(state));
+  section.append(axis, view.stepsLegend(), told, view.waited(state));
   view.stepsTell(state);
   return state;
 };
+
+/** What each axis shows. */
+view.stepsAxes = {
+  time: "The axis shows units of the study's time: at which time each step was, and not how long it took. A record has no clock, also one of a run in real time.",
+  order: "The axis shows the entries of the record, in the order in which they came: from where a step was asked for to its last answer.",
+  clock: "The axis shows milliseconds of the clock since the first step, as simulators noted them. A row without a bar has no notes.",
+};
+
+/** The whole axis. */
+view.stepsExtent = function ({by, turns, record}) {
+  if (by === "time") return [0, view.lastTime(record)];
+  return [0, Math.max(1, by === "order" ? turns.entries : d3.max(turns.end))];
+};
+
+/** The turns of a simulator that have a place on the axis. */
+view.stepsOf = (state, sim) => state.by === "clock" ? state.turns.noted[sim] : state.turns.of[sim];
 
 /** The end of the axis of times: the run's end, or sooner where the record ends long before. */
 view.lastTime = function (record) {
@@ -71,6 +95,7 @@ view.bar = function (state, turn) {
     const part = 0.9 / turns.tiers, start = turns.time[turn] + turns.tier[turn] * part;
     return [start, start + part * 0.92];
   }
+  if (state.by === "clock") return [turns.begin[turn], turns.end[turn]];
   return [turns.asked[turn], view.isOpen(state, turn) ? turns.entries : turns.ended[turn] + 0.8];
 };
 
@@ -78,7 +103,7 @@ view.bar = function (state, turn) {
 view.isOpen = (state, turn) => state.turns.ended[turn] < 0 || state.open && state.open.has(turn);
 
 view.stepsDraw = function (state, context, scale, width, height, ticks) {
-  const {order, record, plot, turns} = state, tone = {step: view.tone("accent"), bad: view.tone("bad")};
+  const {order, record, plot} = state, tone = {step: view.tone("accent"), bad: view.tone("bad")};
   context.strokeStyle = view.tone("grid");
   context.lineWidth = 1;
   context.beginPath();
@@ -86,7 +111,7 @@ view.stepsDraw = function (state, context, scale, width, height, ticks) {
   order.forEach((_, row) => { context.moveTo(plot.left, (row + 1) * view.lane + 0.5); context.lineTo(width, (row + 1) * view.lane + 0.5); });
   context.stroke();
   let seen = 0;
-  order.forEach((sim, row) => { seen += view.laneDraw(state, context, scale, width, turns.of[sim], row, tone); });
+  order.forEach((sim, row) => { seen += view.laneDraw(state, context, scale, width, view.stepsOf(state, sim), row, tone); });
   // arcs are drawn where there is room for them
   if (seen * 30 <= (width - plot.left) * order.length && seen <= 400) view.waitsDraw(state, context, scale);
   view.chosenDraw(state, context, scale);
@@ -132,7 +157,8 @@ view.waitDraw = function (state, context, scale, turn, wide) {
   const {turns, order} = state, before = turns.after[turn];
   if (before < 0) return;
   const rows = [before, turn].map(one => order.indexOf(turns.simulator[one]) * view.lane + view.lane / 2);
-  const from = scale(state.by === "time" ? view.bar(state, before)[1] : turns.asked[turn] - 0.2), to = scale(view.bar(state, turn)[0]);
+  const from = scale(state.by === "order" ? turns.asked[turn] - 0.2 : view.bar(state, before)[1]), to = scale(view.bar(state, turn)[0]);
+  if (!(from === from && to === to)) return;
   const bend = Math.max(8, Math.min(40, Math.abs(rows[1] - rows[0]) / 3));
   context.lineWidth = wide;
   context.beginPath();
@@ -150,7 +176,8 @@ view.waitsDraw = function (state, context, scale) {
   const {turns, plot} = state, from = scale.invert(plot.left), to = scale.invert(plot.width);
   context.strokeStyle = context.fillStyle = view.tone("weak");
   context.globalAlpha = 0.75;
-  for (const own of turns.of) {
+  for (const sim of state.order) {
+    const own = view.stepsOf(state, sim);
     for (let place = view.laneFirst(state, own, from); place < own.length && view.bar(state, own[place])[0] <= to; place++) {
       if (turns.after[own[place]] >= 0 && turns.simulator[turns.after[own[place]]] !== turns.simulator[own[place]]) view.waitDraw(state, context, scale, own[place], 1.2);
     }
@@ -158,8 +185,10 @@ view.waitsDraw = function (state, context, scale) {
   context.globalAlpha = 1;
 };
 
+view.isNoted = ({turns}, turn) => Boolean(turns.begin) && turns.begin[turn] === turns.begin[turn];
+
 view.chosenDraw = function (state, context, scale) {
-  if (state.chosen < 0) return;
+  if (state.chosen < 0 || state.by === "clock" && !view.isNoted(state, state.chosen)) return;
   const {turns, order} = state, row = order.indexOf(turns.simulator[state.chosen]), [a, b] = view.bar(state, state.chosen).map(scale);
   context.strokeStyle = context.fillStyle = view.tone("weak");
   view.waitDraw(state, context, scale, state.chosen, 2.4);
@@ -170,8 +199,8 @@ view.chosenDraw = function (state, context, scale) {
 
 /** Chooses the step that is nearest to the point. */
 view.stepsPick = function (state, x, y) {
-  const own = state.turns.of[state.order[Math.floor(y / view.lane)]];
-  if (!own || !own.length) return;
+  const sim = state.order[Math.floor(y / view.lane)], own = sim === undefined ? [] : view.stepsOf(state, sim);
+  if (!own.length) return;
   const value = state.plot.scale.invert(x), next = Math.min(own.length - 1, view.laneFirst(state, own, value));
   const gap = place => Math.min(...view.bar(state, own[place]).map(end => Math.abs(end - value)));
   const [a] = view.bar(state, own[next]);
@@ -180,7 +209,7 @@ view.stepsPick = function (state, x, y) {
 
 view.stepsChoose = function (state, turn) {
   state.chosen = turn;
-  view.chartShow(state.plot, view.bar(state, turn)[0]);
+  if (state.by !== "clock" || view.isNoted(state, turn)) view.chartShow(state.plot, view.bar(state, turn)[0]);
   const row = state.order.indexOf(state.turns.simulator[turn]), lanes = state.plot.canvas.parentElement, top = row * view.lane;
   if (top < lanes.scrollTop) lanes.scrollTop = top;
   else if (top + view.lane > lanes.scrollTop + lanes.clientHeight) lanes.scrollTop = top + view.lane - lanes.clientHeight + 8;
@@ -201,16 +230,21 @@ view.stepsTell = function (state) {
   if (turns.replied[chosen] < 0) parts.push("gave no answer");
   else parts.push(`answered at line ${line(turns.replied[chosen])}: ${turns.next[chosen] < 0 ? "no next step" : "next step at " + view.whole(turns.next[chosen])}`);
   if (turns.ended[chosen] > turns.replied[chosen] && turns.replied[chosen] >= 0) parts.push(`gave its outputs at line ${line(turns.ended[chosen])}`);
+  if (view.isNoted(state, chosen)) {
+    parts.push(`began ${view.milliseconds(turns.begin[chosen])} after the first step and took ${view.milliseconds(turns.end[chosen] - turns.begin[chosen])}`);
+  } else if (turns.begin) parts.push("no moments were noted");
   const name = `${view.stepName(state, chosen)}: `;
   state.told.replaceChildren(view.make("strong", {}, name), parts.join("; ") + ".");
   view.say(name + parts.join("; "));
 };
 
+view.milliseconds = value => `${d3.format(value < 10 ? ",.3f" : ",.1f")(value)} ms`;
+
 view.stepName = ({record, turns}, turn) => `${record.simulators[turns.simulator[turn]].id}, step ${view.whole(turns.time[turn])}:${turns.tier[turn]}`;
 
 view.waitText = function (state, turn) {
   const before = state.turns.after[turn];
-  if (before < 0) return "at the beginning, it waited for nobody";
+  if (before < 0) return "at the beginning, it waited for no simulator";
   const own = state.turns.simulator[before] === state.turns.simulator[turn];
   return own ? "after its own step before" : `it waited for ${view.stepName(state, before)}`;
 };
@@ -235,9 +269,9 @@ view.stepsKey = function (state, event) {
 
 /** Goes to the next simulator above or below that has a step, to its step at the same place of the axis. */
 view.stepsLane = function (state, row, by) {
-  const {turns, order} = state, value = view.bar(state, state.chosen)[0];
+  const {order} = state, value = view.bar(state, state.chosen)[0];
   for (let other = row + by; other >= 0 && other < order.length; other += by) {
-    const own = turns.of[order[other]];
+    const own = view.stepsOf(state, order[other]);
     if (own.length) {
       view.stepsChoose(state, own[Math.min(own.length - 1, view.laneFirst(state, own, value))]);
       return;
@@ -252,7 +286,7 @@ view.waited = function (state) {
     const before = turns.after[turn], sim = turns.simulator[turn], whom = before < 0 ? -1 : turns.simulator[before];
     counts[sim].set(whom, (counts[sim].get(whom) || 0) + 1);
   }
-  const name = (sim, whom) => whom < 0 ? "nobody" : whom === sim ? "its own step before" : record.simulators[whom].id;
+  const name = (sim, whom) => whom < 0 ? "no simulator" : whom === sim ? "its own step before" : record.simulators[whom].id;
   const rows = order.filter(sim => turns.of[sim].length).map(sim => {
     const most = [...counts[sim]].sort((a, b) => b[1] - a[1]);
     const text = most.slice(0, 6).map(([whom, count]) => `${name(sim, whom)} ${view.whole(count)}×`).join(", ") + (most.length > 6 ? `, and ${most.length - 6} others` : "");
