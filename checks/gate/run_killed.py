@@ -402,7 +402,7 @@ def in_the_handshake(study: Study) -> List[str]:
 
 
 def with_no_name_left(study: Study) -> List[str]:
-    """Where no draft can be begun, a run goes on without; where the folder isn't there, that is said at its end."""
+    """Where no draft can be begun, as in a folder that isn't there, nothing is run, and that is said."""
     names = [f"{DRAFT}{number}" for number in ["", *range(2, 101)]]
     for name in names:
         (study.path / name).write_bytes(b"another's\n")
