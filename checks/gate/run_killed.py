@@ -3,11 +3,11 @@
 
 `run_killed.py PROGRAM [--long]` runs a study of one simulator in plain Python (`sleeper.py`) and an in-process one, once whole, and
 then kills it: at moments that are drawn by how long the draft of the record is (8, with `--long` 50), by a terminal's Ctrl-C, and by
-`kill`; also while it resumes, within its handshake, and at its end, where a simulator lingers. The record's own file has to be as it
-was, and the whole lines of the draft a beginning of the whole run's record. `resume` then has to print and save, byte for byte, what
-the whole run did. A disk that is full (where a file system of 64 KB may be mounted) and a limit of size don't end a run. No draft is
-left by a run that ends well, by two at once into one file, or by a handshake that fails. It prints what differs, and ends with
-'N passed, M failed'.
+`kill`; also while it resumes, within its handshake, within a long step, and at its end, where a simulator lingers. The record's own
+file has to be as it was, and the whole lines of the draft a beginning of the whole run's record. `resume` then has to print and save,
+byte for byte, what the whole run did. A disk that is full (where a file system of 64 KB may be mounted) and a limit of size don't end
+a run. No draft is left by a run that ends well, by two at once into one file, or by a handshake that fails. It prints what differs,
+and ends with 'N passed, M failed'.
 """
 
 import contextlib
@@ -81,6 +81,7 @@ class Study:
 
     def __init__(self, program: str, path: pathlib.Path, scenario: str) -> None:
         self.program, self.path = program, path
+        self.runs: List[subprocess.Popen] = []
         for file in (ROOT / "checks" / "cases" / "simulators" / "sleeper.py", ROOT / "examples" / "api.py"):
             shutil.copy(file, path)
         (path / "study.toml").write_text(scenario, encoding="utf-8")
@@ -92,7 +93,9 @@ class Study:
     def begun(self, *words: str, before: Optional[Callable[[], None]] = None) -> subprocess.Popen:
         """Calls the program with these words in the folder, in a session of its own."""
         pipes = {"stdin": subprocess.DEVNULL, "stdout": subprocess.PIPE, "stderr": subprocess.PIPE}
-        return subprocess.Popen([self.program, *words], cwd=self.path, start_new_session=True, preexec_fn=before, **pipes)
+        run = subprocess.Popen([self.program, *words], cwd=self.path, start_new_session=True, preexec_fn=before, **pipes)
+        self.runs.append(run)
+        return run
 
     def called(self, *words: str, before: Optional[Callable[[], None]] = None) -> Ended:
         """Calls the program, and waits until it has ended."""
@@ -114,7 +117,12 @@ class Study:
         return sorted(str(file.relative_to(self.path)) for file in self.path.rglob("*.part*"))
 
     def clear(self) -> None:
-        """Takes away what the check before left."""
+        """Ends and takes away what the check before left."""
+        for run in self.runs:
+            if run.poll() is None:
+                os.killpg(run.pid, signal.SIGKILL)
+                run.communicate()
+        self.runs.clear()
         for file in self.path.glob("new.record*"):
             file.unlink()
 
@@ -243,8 +251,8 @@ def over_an_old_record(study: Study) -> List[str]:
     (study.path / NEW).chmod(0o640)
     wrong = study.kill("run", "study.toml", "--record", NEW, draft=DRAFT, size=len(study.record) // 2)
     wrong += [] if study.read(NEW) == OLD else ["the old record was changed"]
-    rights = [(study.path / name).stat().st_mode & 0o777 for name in (NEW, DRAFT)]
-    wrong += [] if rights == [0o640, 0o640] else [f"the rights are {rights}"]
+    rights = {file.name: oct(file.stat().st_mode & 0o777) for file in study.path.glob(f"{NEW}*")}
+    wrong += [] if rights == {NEW: "0o640", DRAFT: "0o640"} else [f"the rights are {rights}"]
     return wrong + resumed(study)
 
 
@@ -270,6 +278,7 @@ def at_terminal(study: Study) -> List[str]:
         status = os.waitstatus_to_exitcode(os.waitpid(pid, 0)[1])
         awaited(lambda: not left_behind(pid))
     finally:
+        # what still runs of the terminal's session is ended with it
         os.close(terminal)
     wrong = [] if status == -signal.SIGINT else [f"it ended with {status}"]
     wrong += [] if study.read(NEW) is None else ["a record was saved"]
@@ -355,6 +364,19 @@ def two_at_once(study: Study) -> List[str]:
     return wrong + ([] if study.parts() == [] else [f"there are {study.parts()}"])
 
 
+def within_a_step(study: Study) -> List[str]:
+    """While a simulator takes long for a step, the draft has all until it was asked for that."""
+    run = study.begun("run", study.with_words(f"{STEP} stalls"), "--record", NEW)
+    last = b"ask [0,30,0,60]\n"
+    front = study.record[: study.record.index(last) + len(last)]
+    awaited(lambda: length(study.path / DRAFT) >= len(front) or run.poll() is not None)
+    time.sleep(0.2)
+    wrong = [] if study.read(DRAFT) == front and study.read(NEW) is None else [f"the draft isn't all until {last!r}"]
+    os.killpg(run.pid, signal.SIGKILL)
+    ended(run)
+    return wrong + resumed(study)
+
+
 def lingering(study: Study) -> List[str]:
     """While a simulator doesn't end, the draft has all of the run."""
     run = study.begun("run", study.with_words(f"{STEP} lingers"), "--record", NEW)
@@ -426,6 +448,7 @@ CHECKS: List[Callable[[Study], List[str]]] = [
     by_a_limit_of_size,
     on_full_system,
     two_at_once,
+    within_a_step,
     lingering,
     ending_well,
     in_the_handshake,
@@ -446,11 +469,17 @@ def main() -> int:
         checks += [(check.__name__, lambda check=check: check(study)) for check in CHECKS]
         checks += [("without_children", lambda: without_children(within))]
         for name, check in checks:
-            study.clear()
-            found = check()
+            for one in (study, within):
+                one.clear()
+            try:
+                found = check()
+            except (OSError, RuntimeError, subprocess.SubprocessError) as fault:
+                found = [f"{type(fault).__name__}: {fault}"]
             failed += bool(found)
             for line in found:
                 print(f"{name}: {line}")
+        study.clear()
+        within.clear()
     print(f"{len(checks) - failed} passed, {failed} failed")
     return 1 if failed else 0
 

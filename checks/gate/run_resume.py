@@ -4,7 +4,8 @@
 `run_resume.py PROGRAM` runs a study of two simulators in plain Python (`walker.py`), each of which gets the other's values, once
 whole, and then with a simulator that is killed in the middle. What `resume` prints and saves then has to be, byte for byte, what
 the whole run did, and so has what `migrate` makes of its record; also where the resumed run is cut short again, and where a
-simulator answered otherwise than before, which has to be said. It prints what differs, and ends with 'N passed, M failed'.
+simulator answered otherwise than before, which has to be said. No draft may be left. It prints what differs, and ends with
+'N passed, M failed'.
 """
 import os
 import pathlib
@@ -162,6 +163,7 @@ def main() -> int:
     for check, until in checks:
         with tempfile.TemporaryDirectory() as room:
             found = check(Study(program, pathlib.Path(room), until))
+            found += [f"{file.name} is left" for file in pathlib.Path(room).glob("*.part*")]
         failed += bool(found)
         for line in found:
             print(f"{check.__name__}: {line}")

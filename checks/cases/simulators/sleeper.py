@@ -1,7 +1,8 @@
 """A simulator for the check of runs that are killed: sleeper.py HOST:PORT MILLISECONDS [WHAT].
 
 Its entity goes on from number to number by what comes in and by the time, and each step takes so many milliseconds. With `mute` it
-never answers `create`, with `refuses` it answers that with a failure, and with `lingers` it doesn't end when it is told to stop.
+never answers `create`, with `refuses` it answers that with a failure, with `stalls` it doesn't answer its step at 30, and with `lingers`
+it doesn't end when it is told to stop.
 """
 
 import sys
@@ -30,7 +31,7 @@ class Sleeper(api.Simulator):
     def step(self, time: int, inputs: dict, max_advance: int) -> int:
         came = sum(value for attrs in inputs.values() for values in attrs.values() for value in values.values())
         self.number = (self.number * 31 + came + time) % 1000003
-        clock.sleep(self.seconds)
+        clock.sleep(LONG if self.what == "stalls" and time == 30 else self.seconds)
         return time + 1
 
     def get_data(self, outputs: dict) -> dict:
