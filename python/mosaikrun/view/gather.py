@@ -274,9 +274,8 @@ class Gathering:
                         self._given(number, content)
                 else:
                     number, _, _, _ = part
-                    turn_of[number], awaited[number] = begun, STEP
+                    turn_of[number], awaited[number], ask_of[number] = begun, STEP, part
                     begun += 1
-                    ask_of[number] = part
                     part += (place, last)
                     asks.append(part)
             return True
