@@ -1,9 +1,10 @@
 //! A call of the program, over a fleet to which no simulator connects or another one.
 
 use mk_base::{List, Mem};
+use mk_drafts::Drafts;
 use mk_fakes::{MemFolder, MemSink, PlainFleet};
 use mk_local::Registry;
-use mk_outside::{Folder, Paced, Sink};
+use mk_outside::{Paced, Sink};
 use mk_watch_read::Rules;
 use mosaikrun_program::program;
 use std::alloc::Global;
@@ -19,7 +20,7 @@ fn owned(alloc: Global, words: &[&str]) -> Result<Vec<String>, Mem> {
 
 /// The status of the call with these words, by a program without rules of tables, over a fleet whose clock stands
 /// still.
-pub fn status_of<R: Wait, D: Folder, K: Sink, E: Sink>(
+pub fn status_of<R: Wait, D: Drafts, K: Sink, E: Sink>(
     rt: &R,
     alloc: Global,
     words: &[&str],
@@ -32,7 +33,7 @@ pub fn status_of<R: Wait, D: Folder, K: Sink, E: Sink>(
 }
 
 /// The same over a fleet whose clock goes on by so many milliseconds at each look, and by those of each sleep.
-pub fn status_by_clock<R: Wait, D: Folder, K: Sink, E: Sink>(
+pub fn status_by_clock<R: Wait, D: Drafts, K: Sink, E: Sink>(
     rt: &R,
     alloc: Global,
     words: &[&str],
@@ -48,7 +49,7 @@ pub fn status_by_clock<R: Wait, D: Folder, K: Sink, E: Sink>(
 }
 
 /// The same over this fleet.
-pub fn status_over<R: Wait, D: Folder, F: Paced, K: Sink, E: Sink>(
+pub fn status_over<R: Wait, D: Drafts, F: Paced, K: Sink, E: Sink>(
     rt: &R,
     alloc: Global,
     words: &[&str],
