@@ -435,9 +435,14 @@ def with_no_name_left(study: Study) -> List[str]:
 
 
 def without_children(study: Study) -> List[str]:
-    """A run whose simulators are all in-process is killed."""
+    """A run whose simulators are all in-process is killed. Its record may go on in another order, its report may not."""
     wrong = study.kill("run", "study.toml", "--record", NEW, draft=DRAFT, size=1)
-    return wrong + ([] if has_entry(study.read(DRAFT)) else ["the draft has no entry"]) + resumed(study)
+    wrong += [] if has_entry(study.read(DRAFT)) else ["the draft has no entry"]
+    wrong += study.is_front(DRAFT)
+    for words in (["resume", "study.toml", DRAFT, "--record", NEW], ["replay", NEW]):
+        found = study.called(*words)
+        wrong += [] if found == study.whole else [f"{words[0]} ended with {short(found)}"]
+    return wrong
 
 
 CHECKS: List[Callable[[Study], List[str]]] = [
