@@ -153,10 +153,17 @@ def is_record(data: bytes) -> bool:
     return data.startswith(b"mosaikrun 2\n") and re.search(rb"\nend \d+\n\Z", data) is not None
 
 
-def files_wrong(seen: Seen, good: Seen, before: dict[str, bytes]) -> list[str]:
-    """Returns what is wrong about the files that a run left."""
+def is_draft(data: bytes, is_over: bool) -> bool:
+    """Returns whether bytes are a draft: a beginning of a record, or a whole one where the run came to its end."""
+    return is_record(data) if is_over else b"mosaikrun 2\n".startswith(data[:12])
+
+
+def files_wrong(seen: Seen, good: Seen, before: dict[str, bytes], removes: bool) -> list[str]:
+    """Returns what is wrong about the files that a run left; where it failed, or could remove nothing, a draft may stay."""
     wrong = []
     for name, data in seen.files.items():
+        if name == "new.part" and not (removes and seen.status == 0) and is_draft(data, seen.status == 0):
+            continue
         if name == "new" and data not in (before[name], good.files[name]) and not is_record(data):
             wrong.append(f"the record has {len(data)} bytes, {data[-40:]!r}")
         elif name != "new" and data != before.get(name):
@@ -165,12 +172,12 @@ def files_wrong(seen: Seen, good: Seen, before: dict[str, bytes]) -> list[str]:
     return wrong
 
 
-def ended_wrong(seen: Seen, good: Seen, before: dict[str, bytes]) -> list[str]:
-    """Returns what is wrong about a run of which a call failed."""
+def ended_wrong(seen: Seen, good: Seen, before: dict[str, bytes], removes: bool = True) -> list[str]:
+    """Returns what is wrong about a run of which a call failed; `removes` says that it could remove files."""
     wrong = ["a child still runs"] if seen.left else []
     if seen.status is None:
         return wrong + ["it doesn't end"]
-    wrong += files_wrong(seen, good, before)
+    wrong += files_wrong(seen, good, before, removes)
     if seen.status == 0:
         right = (seen.out, seen.err) == (good.out, b"")
         wrong += [] if right else ["status 0 with another report or line"]
@@ -201,7 +208,7 @@ def tried(stage: Stage, fault: Fault) -> tuple[Optional[int], list[str]]:
     code = str(getattr(errno, fault.error))
     more = {"FAULT_CALL": fault.name, "FAULT_AT": str(fault.number), "FAULT_ERROR": code}
     seen = stage.run(COMMANDS[fault.command], more)
-    return seen.status, ended_wrong(seen, stage.good[fault.command], stage.files)
+    return seen.status, ended_wrong(seen, stage.good[fault.command], stage.files, not fault.name.startswith("unlink"))
 
 
 def share(words: tuple[str, list[Fault]]) -> list[tuple[Fault, Optional[int], list[str]]]:

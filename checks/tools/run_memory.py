@@ -91,7 +91,9 @@ def is_right(good: Seen, got: Seen, before: dict[str, bytes]) -> bool:
     ended = got[:3] == good[:3]
     wanting = got[0] == 8 and good[1].startswith(got[1]) and WANTING.startswith(got[2])
     files = all(
-        data in (before.get(name), good[3].get(name)) or (data.startswith(b"mosaikrun ") and b"\nend " in data)
+        data in (before.get(name), good[3].get(name))
+        or (data.startswith(b"mosaikrun ") and b"\nend " in data)
+        or (wanting and name.endswith(".record.part") and b"mosaikrun 2\n".startswith(data[:12]))
         for name, data in got[3].items()
     )
     return (ended or wanting) and files and all(name in got[3] for name in before)
