@@ -7,6 +7,7 @@ import json
 import numbers
 import os
 import pathlib
+import shlex
 import sys
 import tempfile
 import time
@@ -108,25 +109,32 @@ def carry_out(plan: Plan) -> Optional[str]:
         try:
             status = running.run([plan.command, str(scenario), *plan.options, "--record", str(plan.record)])
         except BaseException:
-            # where the program was killed, the record so far is a draft
-            made = [draft for draft in drafts.beside(plan.record) if draft not in earlier and drafts.has_entry(draft)]
-            for record in [plan.record] if plan.record.exists() else made:
-                sys.stderr.write(f"mosaikrun: the run was ended; {goes_on(plan, record)}\n")
+            record = left(plan, earlier)
+            if record:
+                said = f"its record is {record}; it goes on by: {goes_on(plan, record)}"
+                sys.stderr.write(f"mosaikrun: the run was ended; {said}\n")
             raise
         if status != 0:
-            raise failure(plan, running, status)
+            raise failure(plan, running, status, left(plan, earlier))
         return running.report()
 
 
+def left(plan: Plan, earlier: List[pathlib.Path]) -> Optional[pathlib.Path]:
+    """The record that a run left; where none was saved, as by a program that was killed, the draft of it."""
+    if plan.record.exists():
+        return plan.record
+    made = [draft for draft in drafts.beside(plan.record) if draft not in earlier]
+    return next((draft for draft in made if drafts.has_entry(draft)), None)
+
+
 def goes_on(plan: Plan, record: pathlib.Path) -> str:
-    """How a run that was cut short goes on."""
-    return f"its record is {record}; it goes on by: mosaikrun resume {plan.file} {record}"
+    """The command by which a run that was cut short goes on."""
+    return shlex.join(["mosaikrun", "resume", str(plan.file), str(record), "--record", str(plan.record)])
 
 
-def failure(plan: Plan, running: Running, status: int) -> RunError:
-    """What is to be said of a run that failed."""
+def failure(plan: Plan, running: Running, status: int, record: Optional[pathlib.Path]) -> RunError:
+    """What is to be said of a run that failed and left this record."""
     line = running.line()
-    record = plan.record if plan.record.exists() else None
     hints = []
     if line.startswith("outside: fleet") and running.prints.ended:
         early = [sid for sid in dict.fromkeys(running.prints.ended) if sid in running.sids]
@@ -135,6 +143,8 @@ def failure(plan: Plan, running: Running, status: int) -> RunError:
         hints.append("It was there while the scenario was built: a simulator has to give the same entities each time.")
     if line.startswith("run 1: ") and line.endswith("cause 7") and record:
         hints.append(fraction_hint(plan.scenario, record))
+    if record and record != plan.record:
+        hints.append(f"It goes on by: {goes_on(plan, record)}")
     return RunError(line, status, record, "\n".join(hint for hint in hints if hint))
 
 

@@ -31,7 +31,7 @@ class Wanted(NamedTuple):
     jobs: int
     tasks: int
     options: list[str]
-    leave: bool
+    no_wait: bool
 
 
 class Missing(Exception):
@@ -120,7 +120,7 @@ def by_slurm(study: runs.Study, todo: list[str], wanted: Wanted, say: Callable[[
     elif todo:
         job = submit(study, todo, wanted)
         say(f"job {job} is submitted: {len(todo)} runs, {study.folder / 'slurm' / 'job.sh'}")
-    if job and wanted.leave:
+    if job and wanted.no_wait:
         return f"job {job} makes the runs; the same command gathers the table"
     try:
         await_end(study.folder, math.inf)

@@ -1,7 +1,7 @@
 """Drafts: what a run that is killed leaves of its record, beside the record's file.
 
-The program begins a draft under the first free name of `FILE.part`, `FILE.part2` and so on, and takes it away once the
-record is saved.
+The program begins a draft under the first free name of `FILE.part`, `FILE.part2` and so on up to `FILE.part100`, and
+removes it once the record is saved. So a draft may be gone at any moment.
 """
 
 from __future__ import annotations
@@ -10,9 +10,10 @@ import contextlib
 import os
 import pathlib
 import re
+import stat
 from typing import List, Optional
 
-NAME = re.compile(r"\.part[0-9]*")
+NAME = re.compile(r"\.part([2-9]|[1-9][0-9]|100)?")
 ENTRIES = (b"ask ", b"got ")
 
 
@@ -24,28 +25,44 @@ def is_whole(record: pathlib.Path) -> bool:
     return False
 
 
+def length(file: pathlib.Path) -> int:
+    """How many bytes a file has; -1 where it isn't there, or is no file."""
+    with contextlib.suppress(OSError):
+        found = file.stat()
+        return found.st_size if stat.S_ISREG(found.st_mode) else -1
+    return -1
+
+
 def beside(record: pathlib.Path) -> List[pathlib.Path]:
-    """The drafts beside a record, the longest first: a run that goes on from a draft begins with all of it."""
-    found = [file for file in record.parent.glob("*.part*") if file.name.startswith(record.name)]
-    found = [file for file in found if NAME.fullmatch(file.name[len(record.name) :])]
-    return sorted(found, key=lambda file: file.stat().st_size, reverse=True)
+    """The drafts beside a record, the longest first: a run that continues from a draft begins with all of it."""
+    named = [file for file in record.parent.glob("*.part*") if file.name.startswith(record.name)]
+    found = [(length(file), file) for file in named if NAME.fullmatch(file.name[len(record.name) :])]
+    return [file for size, file in sorted(found, reverse=True) if size >= 0]
 
 
 def has_entry(draft: pathlib.Path) -> bool:
-    """Whether a draft has a whole line of an entry, so that a run can go on from it."""
-    with draft.open("rb") as lines:
+    """Whether a draft has a whole line of an entry, so that a run can continue from it."""
+    with contextlib.suppress(OSError), draft.open("rb") as lines:
         return any(line.startswith(ENTRIES) and line.endswith(b"\n") for line in lines)
+    return False
 
 
-def newest(record: pathlib.Path) -> Optional[pathlib.Path]:
-    """The draft to go on from, where one has an entry and is longer than the record."""
-    for draft in beside(record)[:1]:
-        is_less = is_whole(record) and draft.stat().st_size <= record.stat().st_size
-        return draft if not is_less and has_entry(draft) else None
-    return None
+def to_continue(record: pathlib.Path) -> Optional[pathlib.Path]:
+    """The longest draft that has an entry, where it is longer than a whole record."""
+    least = length(record) if is_whole(record) else -1
+    return next((draft for draft in beside(record) if length(draft) > least and has_entry(draft)), None)
 
 
-def forget(record: pathlib.Path) -> None:
-    """Takes away the drafts beside a record."""
+def remove_all(record: pathlib.Path) -> None:
+    """Removes the drafts beside a record, once that has all that they have."""
     for draft in beside(record):
-        draft.unlink()
+        draft.unlink(missing_ok=True)
+
+
+def set_aside(record: pathlib.Path) -> None:
+    """Keeps the longest of a record and its drafts as `FILE.old`, before the run is made again from its start."""
+    rests = ([record] if record.exists() else []) + [draft for draft in beside(record) if has_entry(draft)]
+    if rests:
+        max(rests, key=length).replace(record.with_name(f"{record.name}.old"))
+    for rest in [*rests, *beside(record)]:
+        rest.unlink(missing_ok=True)

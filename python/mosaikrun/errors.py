@@ -25,8 +25,8 @@ class ProgramMissing(Exception):
 class RunError(ScenarioError, SimulationError):
     """The program ended with a status that isn't 0.
 
-    `line` is what it said, `status` how it ended, `paragraph` what docs/messages.md says of the line, `record` the
-    record of the run where one was saved, and `hint` what else is known.
+    `line` is what it said, `status` how it ended, `paragraph` what docs/messages.md says of the line, and `hint` what
+    else is known. `record` is the record of the run where one was saved, else its draft where that has an entry.
     """
 
     def __init__(

@@ -12,13 +12,15 @@ import json
 import os
 import pathlib
 from dataclasses import dataclass, field
-from typing import Any, BinaryIO, Dict, Iterable, Iterator, List, NamedTuple, Optional, Set, Tuple, Union
+from typing import Any, BinaryIO, Callable, Dict, Iterable, Iterator, List, NamedTuple, Optional, Set, Tuple, Union
 
 KINDS = {0: "request", 1: "reply", 2: "failure"}
 # what json and the shape of a line may raise
 UNREADABLE = (AttributeError, IndexError, KeyError, RecursionError, TypeError, ValueError)
 # so many bytes of lines are read together
 BLOCK = 1 << 15
+# gives the items of the lines of a block, none where they can't be read together
+Reading = Callable[[bytes], List[Any]]
 
 
 class NoRecord(ValueError):
@@ -213,6 +215,8 @@ class RecordReader:
         self._names: List[str] = []
         self._awaited: Dict[str, str] = {}
         self._step: Dict[str, Ask] = {}
+        # reads the lines of a block together
+        self._together: Reading = together
         # what a simulator's reply answers where no step is awaited: in version 1 its next step
         self._idle = "step" if self.plan.version == 1 else ""
 
@@ -226,14 +230,15 @@ class RecordReader:
                 except UNREADABLE:
                     self.leave_out(self.line)
 
-    def blocks(self) -> Iterator[Tuple[int, List[Any]]]:
+    def blocks(self, size: int = BLOCK, read: Optional[Reading] = None) -> Iterator[Tuple[int, List[Any]]]:
         """The entries as they stand in their lines, many at a time, for who reads very many: an iterator of blocks.
 
         A block has the number of its first line, and for each line two items: whether it is a message, as 1 or 0, and
         its value. `unfinished` knows nothing of what was read so. Who can't take a value says so by `leave_out`.
+        A block has about so many bytes, and is what `read` gives for them, which is `together` where none is named.
         """
-        number = self.line + 1
-        for text in texts_of(self._lines):
+        number, self._together = self.line + 1, read or together
+        for text in texts_of(self._lines, size):
             yield from self._block(number, text)
             number += text.count(b"\n")
 
@@ -247,7 +252,7 @@ class RecordReader:
         if middle in (0, len(text)):
             middle = text.find(b"\n") + 1
         is_one = middle in (0, len(text))
-        found = self._alone(number, text) if is_one else together(text)
+        found = self._alone(number, text) if is_one else self._together(text)
         if found:
             self.line = number
             self._entries += len(found) // 2
@@ -352,13 +357,13 @@ def loaded(text: str) -> Any:
     return json.loads(text)
 
 
-def texts_of(lines: Iterable[bytes]) -> Iterator[bytes]:
-    """The lines, many at a time where they are a file's."""
+def texts_of(lines: Iterable[bytes], size: int) -> Iterator[bytes]:
+    """The lines, many at a time where they are a file's: at least so many bytes."""
     if not hasattr(lines, "read"):
         yield from lines
         return
     while True:
-        text = lines.read(BLOCK)
+        text = lines.read(size)
         if not text:
             return
         yield text + lines.readline()

@@ -1,8 +1,14 @@
 """The runs of a sweep, each in a folder of its own: makes one, goes on with one that was cut, keeps one that is whole.
 
 A run's folder is named by its scenario's text, so it is the same run whenever a sweep has it. In it are
-`scenario.toml`; `study.record`, which the program saves; `study.record.part`, its draft, where the program was killed; `log.txt`, what the program and the simulators printed;
-`status.json`, how the run ended; and `watched.txt`, the tables of its watches.
+
+- `scenario.toml`;
+- `study.record`, which the program saves;
+- `study.record.part`, the draft of that, where the program was killed;
+- `study.record.old`, what was left of a run that was begun again from its start;
+- `log.txt`, what the program and the simulators printed;
+- `status.json`, how the run ended;
+- `watched.txt`, the tables of its watches.
 """
 
 from __future__ import annotations
@@ -200,7 +206,7 @@ def made(children: Children, run: str) -> Outcome:
     """Runs the scenario, or goes on with its record where it was cut; the outcome is kept."""
     folder, began = children.study.of(run), time.monotonic()
     scenario, record, kept = str(folder / "scenario.toml"), folder / "study.record", folder / "status.json"
-    before, whole, draft = outcome_of(folder), drafts.is_whole(record), drafts.newest(record)
+    before, whole, draft = outcome_of(folder), drafts.is_whole(record), drafts.to_continue(record)
     how, status, line = "", 1, before.line if before else ""
     kept.unlink(missing_ok=True)
     (folder / "watched.txt").unlink(missing_ok=True)
@@ -217,12 +223,10 @@ def made(children: Children, run: str) -> Outcome:
         status, line = called(children, ["resume", scenario, str(record), "--record", str(record)], None, run)
     if not how or (status and (how == "run" or NOT_THIS.match(line))):
         how = "run"
-        drafts.forget(record)
-        if record.exists():
-            record.replace(folder / "study.record.old")
+        drafts.set_aside(record)
         status, line = called(children, ["run", scenario, "--record", str(record)], None, run)
     if status == 0:
-        drafts.forget(record)
+        drafts.remove_all(record)
     outcome = Outcome(status, line, how, round(time.monotonic() - began, 3))
     written(kept, json.dumps(dataclasses.asdict(outcome)) + "\n")
     return outcome

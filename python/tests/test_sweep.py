@@ -18,7 +18,7 @@ import unittest
 ROOT = pathlib.Path(__file__).resolve().parents[2]
 sys.path.insert(0, str(ROOT / "python"))
 
-from mosaikrun import paths, program, sweep  # noqa: E402
+from mosaikrun import drafts, paths, program, sweep  # noqa: E402
 
 SMALL = ROOT / "examples" / "many" / "small.toml"
 LINK = ROOT / "examples" / "tutorial"
@@ -172,6 +172,61 @@ class Paths(unittest.TestCase):
             self.assertEqual({key: paths.bare(value) for key, value in paths.read(text).items()}, tomllib.loads(text))
 
 
+class Drafts(unittest.TestCase):
+    """What a run may leave beside its record, without the program."""
+
+    def setUp(self) -> None:
+        folder = tempfile.TemporaryDirectory()
+        self.addCleanup(folder.cleanup)
+        self.record = pathlib.Path(folder.name, "a.record")
+
+    def write(self, ending: str, text: str) -> pathlib.Path:
+        file = self.record.with_name(f"{self.record.name}{ending}")
+        file.write_text(text)
+        return file
+
+    def left(self) -> list[str]:
+        return sorted(file.name[len("a.record") :] for file in self.record.parent.iterdir())
+
+    def test_only_names_that_the_program_makes_are_drafts(self) -> None:
+        made = [".part", ".part2", ".part9", ".part10", ".part100"]
+        others = ["", ".part0", ".part1", ".part007", ".part101", ".part1000", ".parts", ".part2.old", "2.part"]
+        for ending in made + others:
+            self.write(ending, "got [0]\n")
+        self.assertEqual(sorted(file.name[len("a.record") :] for file in drafts.beside(self.record)), sorted(made))
+        drafts.remove_all(self.record)
+        self.assertEqual(self.left(), sorted(others))
+
+    def test_the_longest_draft_with_an_entry_is_continued(self) -> None:
+        for texts, ending in [
+            ({}, None),
+            ({".part": ""}, None),
+            ({".part": "run [1]\ngot [0"}, None),
+            ({".part": "run [1]\ngot [0]\n"}, ".part"),
+            ({".part": "got [0]\n", ".part2": "got [0]\ngot [1]\n", ".part3": "got [0]\ng"}, ".part2"),
+            ({".part": "run [1]\nsim [1]\n", ".part2": "got [0]\n"}, ".part2"),
+            ({"": "got [0]\nend 1\n", ".part": "got [0]\ng"}, None),
+            ({"": "got [0]\nend 1\n", ".part": "got [0]\ngot [1]\n"}, ".part"),
+            ({"": "got [0]\ngot [1]\ngot", ".part": "got [0]\n"}, ".part"),
+        ]:
+            with self.subTest(texts):
+                for name in self.left():
+                    self.record.with_name(f"a.record{name}").unlink()
+                for name, text in texts.items():
+                    self.write(name, text)
+                wanted = self.record.with_name(f"a.record{ending}") if ending else None
+                self.assertEqual(drafts.to_continue(self.record), wanted)
+
+    def test_a_draft_that_is_gone_is_none(self) -> None:
+        # as its name is still there and its bytes aren't, so is that of one that is removed meanwhile
+        gone = self.record.with_name("a.record.part")
+        gone.symlink_to("nowhere")
+        draft = self.write(".part2", "got [0]\n")
+        self.assertEqual(drafts.beside(self.record), [draft])
+        self.assertFalse(drafts.has_entry(gone))
+        self.assertEqual(drafts.to_continue(self.record), draft)
+
+
 class Sweeps(unittest.TestCase):
     """Sweeps by the program."""
 
@@ -285,6 +340,27 @@ class Sweeps(unittest.TestCase):
         self.assertEqual(self.how(), ["resumed", "run", "resumed"])
         self.assertEqual([row["Sum-0.0 in sum"] for row in self.rows()], ["55", "65", "85"])
         self.assertEqual(list((self.folder / "out").rglob("*.part*")), [])
+
+    def test_a_draft_that_is_refused_is_kept(self) -> None:
+        more = ["--set", "entities.counter.params.first=2"]
+        self.assertEqual(self.sweep(*more)[0], 0)
+        (row,) = self.rows()
+        text = self.file(row, "study.record").read_bytes()
+        self.assertTrue(text.count(b"run [10,") == text.count(b',{"c":{"out":5}}') == 1, text)
+        # of another plan, no record, and of other simulators
+        for before, after in [(b"run [10,", b"run [11,"), (b"got [0,", b"got 0,"), (b'{"out":5}', b'{"out":6}')]:
+            with self.subTest(after):
+                draft = text.replace(before, after)[: len(text) * 9 // 10]
+                self.file(row, "study.record").unlink()
+                self.file(row, "status.json").unlink()
+                self.file(row, "study.record.part").write_bytes(draft)
+                self.file(row, "study.record.part2").write_bytes(draft[: len(draft) // 2])
+                status, said = self.sweep(*more)
+                self.assertEqual((status, self.how()), (0, ["run"]), said)
+                kept = self.file(row, "study.record.old").read_bytes()
+                self.assertTrue(kept.startswith(draft[: draft.rindex(b"\n") + 1]), kept)
+                self.assertEqual(self.file(row, "study.record").read_bytes(), text)
+                self.assertEqual(list((self.folder / "out").rglob("*.part*")), [])
 
     def test_a_record_of_other_simulators_is_run_anew(self) -> None:
         more = ["--set", "entities.counter.params.first=2"]

@@ -7,6 +7,7 @@ import io
 import json
 import os
 import pathlib
+import shlex
 import signal
 import socket
 import subprocess
@@ -239,6 +240,38 @@ class Runs(InAFolder):
             world.start("Counter")
 
 
+class Drafts(InAFolder):
+    """What is said of the draft that a run left."""
+
+    def ended(self, names: Dict[str, str], fault: BaseException) -> str:
+        """What is said where a run leaves these files and ends so; files with an empty text are gone at once."""
+
+        def run(*_: Any) -> int:
+            for name, text in names.items():
+                pathlib.Path(name).write_text(text, encoding="utf-8") if text else os.symlink("nowhere", name)
+            raise fault
+
+        with mock.patch.object(running.Running, "run", run), self.assertRaises(type(fault)):
+            self.run_world({"Sum": {"local": "sum"}}, lambda world: world.start("Sum"), record="my own.record")
+        return self.err.getvalue()
+
+    def test_an_interrupt_names_the_draft_and_the_whole_command(self) -> None:
+        # the draft of an earlier run isn't that of this one
+        pathlib.Path("my own.record.part").write_text("got [0]\ngot [1]\n", encoding="utf-8")
+        said = self.ended({"my own.record.part2": "got [0]\n", "my own.record.part3": "run"}, KeyboardInterrupt())
+        command = "mosaikrun resume 'my own.record.toml' 'my own.record.part2' --record 'my own.record'"
+        wanted = f"the run was ended; its record is my own.record.part2; it goes on by: {command}\n"
+        self.assertEqual(said, f"mosaikrun: {wanted}")
+
+    def test_a_draft_that_is_gone_takes_no_interrupt_away(self) -> None:
+        self.assertEqual(self.ended({"my own.record.part": ""}, KeyboardInterrupt()), "")
+
+    def test_a_record_that_was_saved_is_named(self) -> None:
+        left = {"my own.record": "got [0]\nend 1\n", "my own.record.part": "got [0]\n"}
+        said = self.ended(left, KeyboardInterrupt())
+        self.assertIn("resume 'my own.record.toml' 'my own.record' --record 'my own.record'\n", said)
+
+
 class Faults(InAFolder):
     """Runs that fail, each with a clear line."""
 
@@ -453,6 +486,24 @@ world.run(until=5)
         self.assertTrue(awaited(lambda: not is_alive(child)))
         record = pathlib.Path("script.record").read_text(encoding="utf-8").splitlines()
         self.assertEqual(len([line for line in record if line.startswith("ask [0,")]), 3)
+
+    def test_a_program_that_is_killed_goes_on_from_its_draft(self) -> None:
+        script = self.started()
+        child = self.stepping(script)
+        (number,) = self.programs()
+        os.kill(int(number), signal.SIGKILL)
+        os.kill(child, signal.SIGKILL)
+        _, err = script.communicate(timeout=SECONDS)
+        self.assertEqual(script.returncode, 1, err)
+        self.assertIn("RunError: ended by signal 9 (status -9)\n", err)
+        self.assertIn("  The record of the run until then: script.record.part\n", err)
+        (line,) = [line for line in err.splitlines() if line.startswith("  It goes on by: mosaikrun ")]
+        words = [program.find(), *shlex.split(line)[5:]]
+        env = {**os.environ, "STEPPED": str(self.room / "stepped")}
+        done = subprocess.run(words, env=env, capture_output=True, text=True, timeout=SECONDS, check=False)
+        self.assertEqual(done.returncode, 0, done.stderr)
+        self.assertEqual(done.stdout.splitlines(), self.report("script.record"))
+        self.assertEqual(done.stdout.splitlines()[-1], "end 10")
 
     def programs(self) -> List[str]:
         """The programs mosaikrun that run in this test's folder."""

@@ -14,10 +14,12 @@ import os
 import sys
 import zlib
 from array import array
+from json.encoder import encode_basestring
 from operator import itemgetter
 from typing import Any, Callable, Dict, Iterable, Iterator, List, Optional, Sequence, Set, Tuple, Union
 
 from mosaikrun.record import UNREADABLE, Ask, Plan, RecordReader
+from mosaikrun.view.plain import BLOCK, Column, Lines, Reading
 
 # kinds of whole numbers of a column, the smallest first: the letter that module `array` has for it, and its name
 KINDS = [("b", "i8"), ("h", "i16"), ("i", "i32")]
@@ -27,6 +29,7 @@ NOTHING, STEP, DATA = 0, 1, 2
 TEXTS = 200
 # so many characters of a text are kept
 LONGEST = 120
+written = json.JSONEncoder(separators=(",", ":"), ensure_ascii=False).encode
 
 Packed = Dict[str, Any]
 
@@ -49,8 +52,38 @@ def smallest(numbers: Sequence[Union[int, float]]) -> Tuple[str, array]:
 
 def short(value: Any) -> str:
     """A value as JSON, cut where it is long."""
-    text = json.dumps(value, separators=(",", ":"), ensure_ascii=False)
+    text = beginning(value, LONGEST)
     return text if len(text) <= LONGEST else text[: LONGEST - 1] + "…"
+
+
+def beginning(value: Any, room: int) -> str:
+    """A value as JSON; of one that takes more room, a longer text that is the same in so many characters."""
+    kind = type(value)
+    if kind is str:
+        return encode_basestring(value)
+    if kind is int:
+        return repr(value)
+    if not value or kind not in (dict, list):
+        return written(value)
+    parts: List[str] = []
+    for part in value:
+        if room < 0:
+            break
+        text = f"{encode_basestring(part)}:{beginning(value[part], room - 1)}" if kind is dict else beginning(part, room - 1)
+        parts.append(text)
+        room -= len(text) + 1
+    return f"{{{','.join(parts)}}}" if kind is dict else f"[{','.join(parts)}]"
+
+
+class Shown(str):
+    """A value as the page shows it, in place of the object or the list that it was."""
+
+
+def kept(values: List[Any]) -> List[Any]:
+    """The values without objects and lists, of which a page shows but the beginning."""
+    if set(map(type, values)).isdisjoint((dict, list)):
+        return values
+    return [Shown(short(value)) if type(value) in (dict, list) else value for value in values]
 
 
 class Series:
@@ -73,7 +106,7 @@ class Series:
         texts: Dict[str, int] = {}
         numbers = []
         for value in self.values:
-            text = short(value)
+            text = value if type(value) is Shown else short(value)
             numbers.append(texts.setdefault(text, len(texts)) if text in texts or len(texts) < TEXTS else TEXTS)
         return {**page, "values": packed(numbers), "texts": list(texts) + ["other values"] * (TEXTS in numbers)}
 
@@ -99,15 +132,12 @@ class Samples:
                 column = self.column(entity, attribute, number, taken)
                 if column is not None:
                     column.samples.append(number)
-                    column.values.append(value)
+                    column.values += kept([value])
 
-    def add_alike(self, steps: List[List[int]], answers: List[Dict[str, Any]], taken: Set[Tuple[str, str]]) -> bool:
-        """Adds the answers to these steps attribute by attribute, if all have the same ones and no time; else none."""
-        found = alike(answers)
-        if found is None:
-            return False
+    def add_alike(self, steps: List[List[int]], found: List[Column], taken: Set[Tuple[str, str]]) -> None:
+        """Adds the answers to these steps attribute by attribute, where all have the same ones and no time."""
         first = len(self.times)
-        numbers = list(range(first, first + len(answers)))
+        numbers = list(range(first, first + len(steps)))
         self.times.extend([step[1] for step in steps])
         self.tiers.extend([step[2] for step in steps])
         for entity, attribute, values in found:
@@ -115,7 +145,6 @@ class Samples:
             if column is not None:
                 column.samples.extend(numbers)
                 column.values.extend(values)
-        return True
 
     def column(self, entity: str, attribute: str, first: int, taken: Optional[Set[Tuple[str, str]]]) -> Optional[Series]:
         """The series of an attribute, made where it isn't there; None where the attribute isn't taken."""
@@ -132,9 +161,9 @@ class Samples:
                     yield entity, attribute, column
 
 
-def alike(answers: List[Dict[str, Any]]) -> Optional[List[Tuple[str, str, List[Any]]]]:
+def alike(answers: List[Dict[str, Any]]) -> Optional[List[Column]]:
     """The entities and attributes that all of these answers have, with the values; None where they have different ones."""
-    found: List[Tuple[str, str, List[Any]]] = []
+    found: List[Column] = []
     count = len(answers)
     try:
         # who has each of so many names and no more has these names
@@ -142,7 +171,7 @@ def alike(answers: List[Dict[str, Any]]) -> Optional[List[Tuple[str, str, List[A
             return None
         for entity, attributes in answers[0].items():
             inner = list(map(itemgetter(entity), answers))
-            found += [(entity, name, list(map(itemgetter(name), inner))) for name in attributes]
+            found += [(entity, name, kept(list(map(itemgetter(name), inner)))) for name in attributes]
             if sum(map(len, inner)) != len(attributes) * count:
                 return None
     except (KeyError, TypeError):
@@ -198,13 +227,15 @@ class Gathering:
         # of a block: what was asked, and by number the steps that were answered with data, and these
         self._asks: List[List[int]] = []
         self._answers: Dict[int, Tuple[List[List[int]], List[Dict[str, Any]]]] = {}
+        # by number which of a simulator's objects are no such answers
+        self._others: Dict[int, List[int]] = {}
 
     def read(self) -> None:
         """Reads the record to its end."""
         collects = gc.isenabled()
         gc.disable()
         try:
-            for line, block in self.reader.blocks():
+            for line, block in self.reader.blocks(BLOCK, Reading().together):
                 if not self.first_line:
                     self._begin(line)
                 self._take(line - self.first_line, block)
@@ -233,17 +264,30 @@ class Gathering:
     def _take(self, place: int, block: List[Any]) -> None:
         """Takes the entries of a block, of which the first has this place."""
         self.turns.room(block[::2].count(0))
-        self._asks, self._answers = [], {}
+        self._asks, self._answers, self._others = [], {}, {}
         pairs = iter(block)
         entries = enumerate(zip(pairs, pairs), place)
         while not self._took(entries):
             pass
         self.turns.asked(self._asks)
         for number, (steps, answers) in self._answers.items():
+            columns = None
+            if isinstance(block, Lines):
+                columns, answers = self._apart(number, block)
             name = self._name(number)
-            samples = self.given.setdefault(name, Samples())
-            if not samples.add_alike(steps, answers, self.reader.taken[name]):
-                add_apart(samples, steps, answers, self.reader.taken[name])
+            samples, taken = self.given.setdefault(name, Samples()), self.reader.taken[name]
+            columns = columns or alike(answers)
+            if columns is None:
+                add_apart(samples, steps, answers, taken)
+            else:
+                samples.add_alike(steps, columns, taken)
+
+    def _apart(self, number: int, block: Lines) -> Tuple[Optional[List[Column]], List[Dict[str, Any]]]:
+        """A simulator's answers in this block: columns where all are plain, else objects."""
+        found, others = block.answers[number], set(self._others.get(number, ()))
+        if found.columns and not others:
+            return found.columns, []
+        return None, [answer for place, answer in enumerate(found.objects()) if place not in others]
 
     def _took(self, entries: Iterator[Tuple[int, Tuple[int, Any]]]) -> bool:
         """Takes entries, each with its place, up to one that can't be read, which is left out; whether there is none."""
@@ -254,24 +298,24 @@ class Gathering:
         try:
             for place, (is_message, part) in entries:
                 if is_message:
-                    number, (kind, identity, content) = part
+                    number, (kind, _, content) = part
                     said[number](place)
                     turn = turn_of[number]
-                    if turn < 0:
-                        continue
-                    last = turn
-                    if kind != 1:
-                        self._special(place, number, kind, identity, content)
+                    if turn >= 0:
+                        last = turn
+                    if turn < 0 or kind != 1:
+                        self._special(place, part)
                         continue
                     ended[turn] = place
                     if awaited[number] == STEP:
-                        awaited[number] = then[number]
-                        replied[turn] = place
+                        awaited[number], replied[turn] = then[number], place
                         if type(content) is int:
                             following[turn] = content
-                    elif awaited[number]:
+                        elif content is not None:
+                            self._other(part)
+                    else:
+                        self._given(part, awaited[number])
                         awaited[number] = NOTHING
-                        self._given(number, content)
                 else:
                     number, _, _, _ = part
                     turn_of[number], awaited[number], ask_of[number] = begun, STEP, part
@@ -280,15 +324,19 @@ class Gathering:
                     asks.append(part)
             return True
         except UNREADABLE:
+            self._other(part)
             self.reader.leave_out(self.first_line + place)
             return False
         finally:
             self._last, self.entries = last, place + 1
 
-    def _special(self, place: int, number: int, kind: int, identity: int, content: Any) -> None:
-        """A simulator sent a request, or a failure."""
+    def _special(self, place: int, part: List[Any]) -> None:
+        """A simulator sent a request, or a failure, or something before its first step."""
+        number, (kind, identity, content) = part
         columns, turn = self.turns.columns, self._turn[number]
-        if kind == 0:
+        if turn < 0:
+            self._other(part)
+        elif kind == 0:
             columns["requests"][turn] += 1
             self._setting(number, identity, content)
         elif kind == 2:
@@ -298,12 +346,26 @@ class Gathering:
         else:
             raise ValueError
 
-    def _given(self, number: int, content: Any) -> None:
-        """A simulator gave its outputs; what is no object was a wrong message."""
-        if type(content) is dict:
-            steps, answers = self._answers.setdefault(number, ([], []))
+    def _given(self, part: List[Any], awaited: int) -> None:
+        """A simulator gave its outputs, if they were awaited; what is no object was a wrong message."""
+        number, content = part[0], part[1][2]
+        if not awaited:
+            self._other(part)
+        elif type(content) is dict:
+            if number not in self._answers:
+                self._answers[number] = ([], [])
+            steps, answers = self._answers[number]
             steps.append(self._ask[number])
             answers.append(content)
+
+    def _other(self, part: Any) -> None:
+        """A message that is no answer to get_data; where it has an object, that one's place is noted."""
+        with contextlib.suppress(*UNREADABLE):
+            number, (_, _, content) = part
+            if type(content) is dict:
+                before = len(self._answers[number][0]) if number in self._answers else 0
+                others = self._others.setdefault(number, [])
+                others.append(before + len(others))
 
     def _setting(self, number: int, identity: int, content: Any) -> None:
         """A simulator set data in others: kept under the entity in which they are set, and where they come from."""
