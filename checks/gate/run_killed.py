@@ -1,13 +1,19 @@
 #!/usr/bin/env python3
 """Tries runs that are killed: what they leave of their record, and that `resume` goes on from it as if nothing had been.
 
-`run_killed.py PROGRAM [--long]` runs a study of one simulator in plain Python (`sleeper.py`) and an in-process one, once whole, and
-then kills it: at moments that are drawn by how long the draft of the record is (8, with `--long` 50), by a terminal's Ctrl-C, and by
-`kill`; also while it resumes, within its handshake, within a long step, and at its end, where a simulator lingers. The record's own
-file has to be as it was, and the whole lines of the draft a beginning of the whole run's record. `resume` then has to print and save,
-byte for byte, what the whole run did. A disk that is full (where a file system of 64 KB may be mounted) and a limit of size don't end
-a run. No draft is left by a run that ends well, by two at once into one file, or by a handshake that fails. It prints what differs,
-and ends with 'N passed, M failed'.
+`run_killed.py PROGRAM [--long]` runs a study of one simulator in plain Python (`sleeper.py`) and an in-process one, once whole. Then it
+kills such runs:
+
+- at moments that are drawn by how long the draft of the record is: 8, with `--long` 50;
+- by a terminal's Ctrl-C, and by `kill`;
+- while one resumes, within its handshake, within a long step, and at its end, where a simulator lingers.
+
+The record's own file has to be as it was, and the whole lines of the draft a beginning of the whole run's record. `resume` then has to
+print and save, byte for byte, what the whole run did.
+
+A limit of size doesn't end a run. Nor does a disk that is full, which is tried where a file system of 64 KB may be mounted. No draft is
+left by a run that ends well, by two at once into one file, or by a handshake that fails. Where no draft can be begun, no simulator is
+started. It prints what differs, and ends with 'N passed, M failed'.
 """
 
 import contextlib
@@ -58,6 +64,8 @@ entities = [{{ id = "a", sim = "A-0", model = "Count" }}, {{ id = "b", sim = "B-
 connect = [{{ from = "a", to = "b", attrs = [["out", "in"]] }}]
 """
 NEW, DRAFT, SECOND = "new.record", "new.record.part", "new.record.part2"
+# what a simulator leaves that was started to do so
+RAN = "new.record.ran"
 OLD = b"an old record\n"
 FOLDER_FAULT = b"mosaikrun: outside: folder\n"
 # how many milliseconds a step takes; and where a run must not be over too soon
@@ -210,8 +218,9 @@ def ended(run: subprocess.Popen) -> Ended:
 
 
 def resumed(study: Study, scenario: str = "study.toml") -> List[str]:
-    """Goes on from the newest draft that has an entry; where none has, that is said, and the study is run again."""
+    """Goes on from the longest draft that has an entry; where none has, that is said, and the study is run again."""
     drafts = [name for name in (SECOND, DRAFT) if study.read(name) is not None]
+    drafts.sort(key=lambda name: length(study.path / name), reverse=True)
     with_entry = [name for name in drafts if has_entry(study.read(name))]
     if study.read(NEW) == study.record:
         return []
@@ -353,12 +362,15 @@ def on_full_system(study: Study) -> List[str]:
 
 def two_at_once(study: Study) -> List[str]:
     """Two runs into one file end well; it has the record of one of them, and no draft is left."""
-    other = study.called("run", study.with_words(str(SLOW), 40), "--record", "other.record")
+    other = study.called("run", study.with_words(str(5 * SLOW), 40), "--record", "other.record")
     records = {study.record, study.read("other.record")}
-    runs = [study.begun("run", name, "--record", NEW) for name in ("study.toml", "other.toml")]
-    awaited(lambda: study.parts() == [DRAFT, SECOND] or any(run.poll() is not None for run in runs))
+    # the slow one goes first, so that it is there as long as the other one
+    slow = study.begun("run", "other.toml", "--record", NEW)
+    awaited(lambda: study.parts() == [DRAFT] or slow.poll() is not None)
+    quick = study.begun("run", "study.toml", "--record", NEW)
+    awaited(lambda: study.parts() == [DRAFT, SECOND] or quick.poll() is not None)
     wrong = [] if study.parts() == [DRAFT, SECOND] else [f"two runs have the drafts {study.parts()}"]
-    found = [ended(run) for run in runs]
+    found = [ended(quick), ended(slow)]
     wrong += [] if found == [study.whole, other] else [f"they ended with {[short(one) for one in found]}"]
     wrong += [] if study.read(NEW) in records and len(records) == 2 else [f"{NEW} is the record of neither"]
     return wrong + ([] if study.parts() == [] else [f"there are {study.parts()}"])
@@ -424,12 +436,20 @@ def in_the_handshake(study: Study) -> List[str]:
 
 
 def with_no_name_left(study: Study) -> List[str]:
-    """Where no draft can be begun, as in a folder that isn't there, nothing is run, and that is said."""
+    """Where no draft can be begun, as in a folder that isn't there, no simulator is started, and that is said."""
+    wrong: List[str] = []
     names = [f"{DRAFT}{number}" for number in ["", *range(2, 101)]]
     for name in names:
         (study.path / name).write_bytes(b"another's\n")
-    found = [study.called("run", "study.toml", "--record", name) for name in (NEW, "nowhere/new.record")]
-    wrong = [f"it ended with {short(one)}" for one in found if one != Ended(6, b"", FOLDER_FAULT)]
+    marks = study.with_words(f"{STEP} marks")
+    for name in (NEW, "nowhere/new.record", NEW.ljust(251, "d")):
+        found = study.called("run", marks, "--record", name)
+        wrong += [] if found == Ended(6, b"", FOLDER_FAULT) else [f"{name}: it ended with {short(found)}"]
+        wrong += [] if study.read(RAN) is None else [f"{name}: a simulator was started"]
+        (study.path / RAN).unlink(missing_ok=True)
+    # where a record can be saved, the simulator is started, and leaves its mark
+    wrong += study.is_whole(study.called("run", marks, "--record", "other.record"), "other.record")
+    wrong += [] if study.read(RAN) is not None else ["no simulator leaves its mark"]
     wrong += [] if all(study.read(name) == b"another's\n" for name in names) else ["another's part was changed"]
     return wrong + ([] if study.read(NEW) is None and sorted(names) == study.parts() else [f"there are {study.parts()}"])
 

@@ -51,10 +51,12 @@ COMMANDS = {
     "blame": ("blame", "whole", "whole"),
     "demo": ("demo", "1"),
 }
+# those that write a draft of their record while they go
+WITH_DRAFT = ("run", "paced", "resume")
 
 
 class Seen(NamedTuple):
-    """How a run ended, and the files that it left."""
+    """How a run ended, the files that it left, and the words that it was called with."""
 
     status: Optional[int]
     out: bytes
@@ -62,6 +64,7 @@ class Seen(NamedTuple):
     files: dict[str, bytes]
     calls: dict[str, int]
     left: bool
+    words: tuple[str, ...] = ()
 
 
 class Fault(NamedTuple):
@@ -108,7 +111,7 @@ class Stage:
         told.unlink(missing_ok=True)
         kept = {it.name: it.read_bytes() for it in pathlib.Path(room).iterdir() if it.name != "counter"}
         shutil.rmtree(room)
-        return seen._replace(files=kept, calls={name: int(count) for name, count in calls.items()})
+        return seen._replace(files=kept, calls={name: int(count) for name, count in calls.items()}, words=words)
 
     def _ended(self, words: tuple[str, ...], room: str, scope: dict[str, str], begun, files: int) -> Seen:
         limit = None if files == MOST_FILES else lambda: resource.setrlimit(resource.RLIMIT_NOFILE, (files, files))
@@ -153,16 +156,36 @@ def is_record(data: bytes) -> bool:
     return data.startswith(b"mosaikrun 2\n") and re.search(rb"\nend \d+\n\Z", data) is not None
 
 
-def is_draft(data: bytes, is_over: bool) -> bool:
-    """Returns whether bytes are a draft: a beginning of a record, or a whole one where the run came to its end."""
-    return is_record(data) if is_over else b"mosaikrun 2\n".startswith(data[:12])
+def is_draft(data: bytes, good: bytes, in_order: bool) -> bool:
+    """Returns whether bytes are a beginning of a good record, which may be ended early by a right count."""
+    lines, wanted = data.splitlines(True), good.splitlines(True)
+    rest = lines.pop() if lines and not lines[-1].endswith(b"\n") else b""
+    first = next(place for place, line in enumerate(wanted) if line.startswith((b"ask ", b"got ", b"end ")))
+    if not rest and len(lines) > first and lines[-1] == b"end %d\n" % (len(lines) - 1 - first):
+        lines.pop()
+    if in_order or len(lines) < first:
+        return good.startswith(b"".join(lines) + rest)
+    known, entries = collections.Counter(wanted[first:]), collections.Counter(lines[first:])
+    is_known = lines[:first] == wanted[:first] and not entries - known
+    return is_known and (not rest or any(line.startswith(rest) for line in known - entries))
+
+
+def may_stay(seen: Seen, good: Seen, before: dict[str, bytes], removes: bool) -> bool:
+    """Returns whether the draft may be there: of a record that wasn't saved, or one that couldn't be removed."""
+    draft, saved = seen.files["new.part"], seen.files.get("new")
+    if good.words[0] not in WITH_DRAFT:
+        return False
+    if saved == before["new"]:
+        # where nobody else has a say, messages come in one order
+        return seen.status != 0 and is_draft(draft, good.files["new"], "inside.toml" in good.words)
+    return not removes and draft == saved
 
 
 def files_wrong(seen: Seen, good: Seen, before: dict[str, bytes], removes: bool) -> list[str]:
-    """Returns what is wrong about the files that a run left; where it failed, or could remove nothing, a draft may stay."""
+    """Returns what is wrong about the files that a run left."""
     wrong = []
     for name, data in seen.files.items():
-        if name == "new.part" and not (removes and seen.status == 0) and is_draft(data, seen.status == 0):
+        if name == "new.part" and may_stay(seen, good, before, removes):
             continue
         if name == "new" and data not in (before[name], good.files[name]) and not is_record(data):
             wrong.append(f"the record has {len(data)} bytes, {data[-40:]!r}")

@@ -1,10 +1,13 @@
-"""A simulator for the check of runs that are killed: sleeper.py HOST:PORT MILLISECONDS [WHAT].
+"""A simulator for the checks of runs that are killed or watched: sleeper.py HOST:PORT MILLISECONDS [WHAT].
 
 Its entity goes on from number to number by what comes in and by the time, and each step takes so many milliseconds. With `mute` it
 never answers `create`, with `refuses` it answers that with a failure, with `stalls` it doesn't answer its step at 30, and with `lingers`
-it doesn't end when it is told to stop.
+it doesn't end when it is told to stop. With `closes` it ends at the first step at which there is a file of this name. With `marks` it
+leaves a file `new.record.ran` as soon as it is started.
 """
 
+import os
+import pathlib
 import sys
 import time as clock
 
@@ -29,6 +32,8 @@ class Sleeper(api.Simulator):
         return [{"eid": str(eid), "type": model} for eid in range(num)]
 
     def step(self, time: int, inputs: dict, max_advance: int) -> int:
+        if self.what == "closes" and os.path.exists(self.what):
+            os._exit(0)
         came = sum(value for attrs in inputs.values() for values in attrs.values() for value in values.values())
         self.number = (self.number * 31 + came + time) % 1000003
         clock.sleep(LONG if self.what == "stalls" and time == 30 else self.seconds)
@@ -42,4 +47,6 @@ class Sleeper(api.Simulator):
             clock.sleep(LONG)
 
 
+if sys.argv[3:] == ["marks"]:
+    pathlib.Path("new.record.ran").touch()
 api.serve(api.connected(sys.argv[1]), Sleeper(int(sys.argv[2]), "".join(sys.argv[3:])))

@@ -21,20 +21,33 @@ pub fn write_anew<R: Files + AllocGlobal>(rt: &R, name: &str, bytes: &[u8]) -> i
     }
 }
 
-/// Makes an empty file beside the one of this name, which need not be there, and gives its path too. It has the other
-/// one's rights. There is none where the other one is no regular file. It is an error where it may not be written.
+/// A new file beside another one, which need not be there: the new one's name, and the path of the other one.
+#[derive(Drop)]
+pub struct Part<F> {
+    pub file: F,
+    pub name: String,
+    pub path: PathBuf,
+}
+
+/// Makes an empty file beside the one of this name, which need not be there. It has the other one's rights. There is
+/// none where the other one is no regular file. It is an error where it may not be written.
 pub fn open_beside<R: Files + AllocGlobal>(
     rt: &R,
     name: &str,
-) -> io::Result<(String, Option<R::File>)> {
+) -> io::Result<Option<Part<R::File>>> {
     let mut path = PathBuf::from_str(rt.alloc(), name)?;
     match follow_all(rt, &mut path)? {
         There::File => {
-            let (part, file) = begin_part(rt, path.as_str())?;
-            Ok((part, Some(file)))
+            let (name, file) = begin_part(rt, path.as_str())?;
+            Ok(Some(Part { file, name, path }))
         }
-        There::Link | There::Other => Ok((String::new(rt.alloc()), None)),
+        There::Link | There::Other => Ok(None),
     }
+}
+
+/// Puts a part in the place of the file that it lies beside, once its bytes are on the disk. Where that fails it stays.
+pub fn settle_part<R: Files>(rt: &R, part: &mut Part<R::File>) -> io::Result<()> {
+    settle(rt, part.name.as_str(), &mut part.file, part.path.as_str())
 }
 
 // What stands at a path.
@@ -56,6 +69,7 @@ fn look<R: Files>(rt: &R, path: Path) -> io::Result<There> {
     match fs::symlink_metadata(rt, path) {
         Ok(there) if there.is_symlink() => Ok(There::Link),
         Ok(there) if there.is_file() => Ok(There::File),
+        Ok(there) if there.is_dir() => Err(io::Error::from(ErrorKind::IsADirectory)),
         Ok(_) => Ok(There::Other),
         Err(e) if e.kind() == ErrorKind::NotFound => Ok(There::File),
         Err(e) => Err(e),
@@ -84,10 +98,7 @@ fn follow_all<R: Files + AllocGlobal>(rt: &R, path: &mut PathBuf) -> io::Result<
 fn replace<R: Files + AllocGlobal>(rt: &R, path: &str, bytes: &[u8]) -> io::Result<()> {
     let (part, mut file) = begin_part(rt, path)?;
     let placed = place(rt, part.as_str(), &mut file, bytes, path);
-    if placed.is_ok() {
-        // the file has its name by now, so this changes no answer
-        let _ = sync_folder(rt, path);
-    } else {
+    if placed.is_err() {
         let _ = fs::remove_file(rt, part.as_str());
     }
     placed
@@ -114,8 +125,7 @@ fn give_rights<F: OpenFile>(file: &F, rights: Option<Permissions>) -> io::Result
     }
 }
 
-// Gives a new file, which has the name of a part, its bytes, waits until they are on the disk, and puts it at this
-// path.
+// Gives a new file, which has the name of a part, its bytes, and puts it at this path.
 fn place<R: Files>(
     rt: &R,
     part: &str,
@@ -124,9 +134,17 @@ fn place<R: Files>(
     path: &str,
 ) -> io::Result<()> {
     file.write_all(bytes)?;
+    settle(rt, part, file, path)
+}
+
+// Waits until the bytes of a file, which has the name of a part, are on the disk, and puts it at this path.
+fn settle<R: Files>(rt: &R, part: &str, file: &mut R::File, path: &str) -> io::Result<()> {
     file.flush()?;
     file.sync_all()?;
-    fs::rename(rt, part, path)
+    fs::rename(rt, part, path)?;
+    // the file has its name by now, so this changes no answer
+    let _ = sync_folder(rt, path);
+    Ok(())
 }
 
 // The rights of the file at this path; none where nothing stands there. It is an error where the file may not be

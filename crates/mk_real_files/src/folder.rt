@@ -1,8 +1,9 @@
 //! The system's files, by their paths.
-ghost use Rattle.std.specs.Prelude.{◌≡◌, ◌≢◌, IfOk};
+ghost use Rattle.std.specs.Prelude.{◌≡◌, ◌≢◌, ◌≤◌, IfOk};
+ghost use Rattle.mk_outside.specs.Counts.{HasRisen};
 
 use crate::anew::write_anew;
-use crate::draft::{RealDraft, new_draft, remove_draft};
+use crate::draft::{RealDraft, finish_draft, new_draft, remove_draft};
 use mk_drafts::{Begun, Drafts};
 use mk_outside::{FILE_LIMIT, FileRead, FileSave, Folder};
 use std::fs::{self, Files, OpenFile};
@@ -49,14 +50,7 @@ impl<'a, R: Files + AllocGlobal> Folder for RealFolder<'a, R> {
     }
 
     fn save(&mut self, name: &str, bytes: &[u8]) -> FileSave {
-        match write_anew(self.rt, name, bytes) {
-            Ok(()) => FileSave::Kept,
-            Err(e) if e.kind() == ErrorKind::OutOfMemory => FileSave::Mem,
-            Err(_) => {
-                self.faults = self.faults.saturating_add(1);
-                FileSave::Failed
-            }
-        }
+        answered(write_anew(self.rt, name, bytes), &mut self.faults)
     }
 }
 
@@ -65,7 +59,8 @@ impl<'a, R: Files + AllocGlobal> Drafts for RealFolder<'a, R> {
 
     fn begin(&mut self, name: &str) -> Begun<RealDraft<R::File>> {
         match new_draft(self.rt, name) {
-            Ok(draft) => Begun::Draft(draft),
+            Ok(Some(draft)) => Begun::Draft(draft),
+            Ok(None) => Begun::Nowhere,
             Err(e) if e.kind() == ErrorKind::OutOfMemory => Begun::Mem,
             Err(_) => {
                 self.faults = self.faults.saturating_add(1);
@@ -74,8 +69,27 @@ impl<'a, R: Files + AllocGlobal> Drafts for RealFolder<'a, R> {
         }
     }
 
+    fn finish(&mut self, draft: RealDraft<R::File>, _name: &str) -> FileSave {
+        answered(finish_draft(self.rt, draft), &mut self.faults)
+    }
+
     fn leave(&mut self, draft: RealDraft<R::File>) {
         remove_draft(self.rt, draft);
+    }
+}
+
+// The answer of a save that came to this. One that failed is counted in the faults.
+fn answered(done: io::Result<()>, faults: &mut u64) -> FileSave
+    ensures count { faults.old ≤ faults.new }
+    ensures cause { result ≡ FileSave.Failed → HasRisen faults.old faults.new }
+{
+    match done {
+        Ok(()) => FileSave::Kept,
+        Err(e) if e.kind() == ErrorKind::OutOfMemory => FileSave::Mem,
+        Err(_) => {
+            *faults = faults.saturating_add(1);
+            FileSave::Failed
+        }
     }
 }
 

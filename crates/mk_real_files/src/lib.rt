@@ -1,4 +1,4 @@
-//! The system's files, its standard streams and the words of the call. No clause says what they hold.
+//! The system's files, its standard streams, its clock and the words of the call. No clause says what they hold.
 #![tactic(auto)]
 
 mod anew;
@@ -6,9 +6,11 @@ mod calling;
 mod draft;
 mod folder;
 mod sink;
+mod stopwatch;
 mod writing;
 
 pub use calling::words;
 pub use draft::RealDraft;
 pub use folder::RealFolder;
 pub use sink::RealSink;
+pub use stopwatch::RealStopwatch;

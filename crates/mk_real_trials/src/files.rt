@@ -5,9 +5,9 @@ use mk_drafts::{Begun, Drafts};
 use mk_outside::{FileRead, FileSave, Folder, Sink, Wrote};
 use mk_real_files::{RealFolder, RealSink};
 use std::alloc::{AllocGlobal, Global};
-use std::fs::{self, Files};
+use std::fs::{self, Files, Permissions};
 use std::io;
-use std::os::unix::fs as unix;
+use std::os::unix::fs::{self as unix, PermissionsExt};
 
 // Whether a folder answers so to a read, and gives these bytes.
 fn is_read<F: Folder>(
@@ -169,18 +169,89 @@ fn leaves_a_draft(rt: HostRuntime) {
     assert!(rt; is_left_again(&rt));
 }
 
-// Whether a draft of this name is begun, refuses a piece, and is left.
-fn is_refused<R: Files + AllocGlobal>(rt: &R, name: &str) -> bool {
+#[test]
+fn what_is_no_file_has_no_draft(rt: HostRuntime) {
+    let nowhere = match RealFolder::new(&rt).begin("/dev/null") {
+        Begun::Nowhere => true,
+        _ => false,
+    };
+    assert!(rt; nowhere);
+}
+
+// Whether the folder fails to begin a draft of the file of this name.
+fn is_not_begun<R: Files + AllocGlobal>(rt: &R, name: &str) -> bool {
+    match RealFolder::new(rt).begin(name) {
+        Begun::Failed => true,
+        _ => false,
+    }
+}
+
+#[test]
+fn no_draft_is_begun_of_a_folder_nor_in_one_that_is_not_there(rt: HostRuntime) {
+    let made = fs::create_dir(&rt, "folder-of-a-draft").is_ok();
+    let named = is_not_begun(&rt, "folder-of-a-draft");
+    let missing = is_not_begun(&rt, "folder-not-there/record");
+    assert!(rt; fs::remove_dir(&rt, "folder-of-a-draft").is_ok() && made && named && missing);
+}
+
+// Whether a draft of the file of this name is begun, takes this piece, and becomes the file.
+fn is_finished<R: Files + AllocGlobal>(rt: &R, name: &str, piece: &[u8]) -> bool
+    requires { piece.now ≢ [] }
+{
     let mut folder = RealFolder::new(rt);
     let Begun::Draft(mut draft) = folder.begin(name) else {
         return false;
     };
-    let refused = draft.put(b"some\n") == Wrote::Failed;
-    folder.leave(draft);
-    refused
+    let taken = draft.put(piece) == Wrote::Took(piece.len());
+    folder.finish(draft, name) == FileSave::Kept && taken
 }
 
 #[test]
-fn what_is_no_file_has_a_draft_that_takes_nothing(rt: HostRuntime) {
-    assert!(rt; is_refused(&rt, "/dev/null"));
+fn a_draft_takes_the_name_of_its_file(rt: HostRuntime) {
+    let finished = is_finished(&rt, "finished-by-a-test", b"some\n");
+    let there = is_taken_away(&rt, "finished-by-a-test", b"some\n");
+    assert!(rt; finished && there && is_missing(&rt, "finished-by-a-test.part"));
+}
+
+// Whether a draft that is finished over an old file of this name has its rights then.
+fn are_rights_kept<R: Files + AllocGlobal>(rt: &R, name: &str) -> io::Result<bool> {
+    fs::write(rt, name, "old, and longer\n")?;
+    fs::set_permissions(rt, name, Permissions::from_mode(0o600))?;
+    let rights = fs::metadata(rt, name)?.permissions();
+    let finished = is_finished(rt, name, b"new\n");
+    Ok(finished && fs::metadata(rt, name)?.permissions() == rights)
+}
+
+#[test]
+fn a_draft_keeps_the_rights_of_its_file(rt: HostRuntime) {
+    let kept = are_rights_kept(&rt, "file-with-rights");
+    let there = is_taken_away(&rt, "file-with-rights", b"new\n");
+    assert!(rt; matches!(kept, Ok(true)) && there && is_missing(&rt, "file-with-rights.part"));
+}
+
+#[test]
+fn a_draft_takes_the_name_where_a_link_leads(rt: HostRuntime) {
+    let link = "link-of-a-finish";
+    let made = unix::symlink(&rt, "end-of-a-finish", link).is_ok();
+    let finished = is_finished(&rt, link, b"some\n");
+    let there = is_taken_away(&rt, "end-of-a-finish", b"some\n");
+    assert!(rt; fs::remove_file(&rt, link).is_ok() && made && finished && there);
+}
+
+// Whether a draft of the file of this name isn't finished where a folder has got its name.
+fn is_unfinished<R: Files + AllocGlobal>(rt: &R, name: &str) -> bool {
+    let mut folder = RealFolder::new(rt);
+    let Begun::Draft(mut draft) = folder.begin(name) else {
+        return false;
+    };
+    let made = draft.put(b"some\n") == Wrote::Took(5) && fs::create_dir(rt, name).is_ok();
+    let failed = folder.finish(draft, name) == FileSave::Failed;
+    fs::remove_dir(rt, name).is_ok() && made && failed
+}
+
+#[test]
+fn a_draft_stays_where_it_is_not_finished(rt: HostRuntime) {
+    let failed = is_unfinished(&rt, "unfinished-by-a-test");
+    let stays = is_taken_away(&rt, "unfinished-by-a-test.part", b"some\n");
+    assert!(rt; failed && stays && is_missing(&rt, "unfinished-by-a-test"));
 }

@@ -1,9 +1,8 @@
 -- What a look does, and what many do.
-use Rattle.std.proofs.Common.{◌≡◌, ◌⊎◌, inl, inr, ℕ, ◌<◌, ◌≤◌, Bool, true, List, [], ◌∷◌, ◌++◌, flat_map, Option, Some, None, refl, sym, ap, ◌∙◌, subst, append_assoc, arith}
+use Rattle.std.proofs.Common.{◌≡◌, ℕ, Bool, true, List, [], ◌∷◌, ◌++◌, flat_map, Option, Some, None, refl, sym, subst, append_assoc}
 use Rattle.std.specs.Prelude.{IfSome}
 use Rattle.mk_base.specs.Lists.{BeginsWith}
 use Rattle.mk_base.proofs.Lists.{append_nil}
-use Rattle.mk_outside.specs.Counts.{HasRisen}
 use Rattle.mk_plan.specs.declared.Plan.{Plan}
 use Rattle.mk_plan.specs.declared.Entry.{Entry}
 use Rattle.mk_onlooker.specs.Showings.{Saw, IsShown}
@@ -11,9 +10,8 @@ use Rattle.mk_record_read.specs.Texts.{record_text}
 use Rattle.mk_scribe.specs.declared.scribe.Scribe.{Scribe}
 use Rattle.mk_scribe.specs.declared.sheet.Sheet.{Sheet}
 use Rattle.mk_scribe.specs.declared.sheet.Writing.{Writing}
-use Rattle.mk_scribe.specs.declared.sheet.Writing.TheVariants.{Unbegun}
-use Rattle.mk_scribe.specs.Desks.{Desk, Has, IsNew, Makes, MakesOn, Notes, desk_of, looks_of}
-use Rattle.mk_scribe.specs.Drafts.{Draft, HasRefused, IsLater, draft_of}
+use Rattle.mk_scribe.specs.Desks.{Has, IsNew, Makes, Notes, desk_of, looks_of}
+use Rattle.mk_scribe.specs.Drafts.{Draft, IsLater, draft_of}
 use Rattle.mk_scribe.specs.inner.Steps.{Adds, Moves}
 use Rattle.mk_scribe.proofs.Closing.{later_still, same_draft}
 use Rattle.mk_scribe.proofs.Texts.{beginning_made, beginning_of_record, if_told, moved}

@@ -1,6 +1,6 @@
 -- Texts that are put piece by piece.
-use Rattle.std.proofs.Common.{◌≡◌, ◌⊎◌, inl, inr, ℕ, ◌+◌, ◌≤◌, List, [], ◌++◌, length, Option, Some, None, refl, sym, ap, ◌∙◌, subst, append_assoc, length-append, arith}
-use Rattle.std.specs.Prelude.{take, drop}
+use Rattle.std.proofs.Common.{◌≡◌, ◌⊎◌, inl, inr, ℕ, ◌+◌, List, [], ◌++◌, length, Option, Some, None, refl, sym, ap, ◌∙◌, append_assoc, length-append, arith}
+use Rattle.std.specs.Prelude.{take}
 use Rattle.std.proofs.lemmas.List.{take-append-le}
 use Rattle.std.proofs.Math.Seq.{take-append-add}
 use Rattle.mk_base.proofs.Lists.{append_nil}
@@ -8,13 +8,7 @@ use Rattle.mk_outside.specs.declared.sink.PutAll.{PutAll}
 use Rattle.mk_outside.specs.declared.sink.PutAll.TheVariants as put
 use Rattle.mk_outside.specs.Sinks.{TookBeginning, TookText, appended}
 
--- a text was taken, or a beginning of it, for this cause or that one
-pub outcome : {F M : Type 0} (r : PutAll) (text : List ℕ) (old new : Option (List ℕ)) → TookText r text old new → (r ≡ put.Failed → F) → (r ≡ put.Mem → M)
-    → (new ≡ appended text old) ⊎ (TookBeginning text old new × (F ⊎ M))
-outcome put.Done text old new took f m = inl took
-outcome put.Failed text old new took f m = inr (took, inl (f refl))
-outcome put.Mem text old new took f m = inr (took, inr (m refl))
-
+-- not all of a text was taken, for this cause or that one
 pub not_all : {F M : Type 0} (r : PutAll) (text : List ℕ) (old new : Option (List ℕ)) → TookText r text old new → (r ≡ put.Failed → F) → (r ≡ put.Mem → M) → (r ≡ put.Done → ⊥)
     → TookBeginning text old new × (F ⊎ M)
 not_all put.Done text old new took f m not = absurd (not refl)

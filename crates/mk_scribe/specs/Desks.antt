@@ -1,5 +1,5 @@
 -- What a scribe works at: a draft, and a sheet with the lines that aren't there yet.
-use Rattle.std.specs.Prelude.{◌≡◌, ℕ, ◌⊎◌, Bool, true, false, List, [], ◌++◌, length, Option, IfSome}
+use Rattle.std.specs.Prelude.{◌≡◌, ℕ, ◌⊎◌, Bool, true, List, [], ◌++◌, length, Option, IfSome}
 use Rattle.mk_base.specs.Lists.{BeginsWith}
 use Rattle.mk_plan.specs.declared.Plan.{Plan}
 use Rattle.mk_plan.specs.declared.Entry.{Entry}
@@ -22,12 +22,6 @@ desk_of written faults shortages scribe = record {
   draft = draft_of written faults shortages scribe.draft;
   sheet = scribe.sheet;
 }
-
--- lines of a record were made
-abbrev pub is_begun : Writing → Bool
-is_begun Unbegun = false
-is_begun Begun = true
-is_begun Lost = true
 
 -- what was written and the lines that aren't there yet are the text of the record of a plan and a
 -- journal so far; of a record that was given up, what was written is a beginning
@@ -53,7 +47,7 @@ pub record IsNew (desk : Desk) : Type 0 where
   pub uncounted : desk.sheet.count ≡ 0
   pub no_line : desk.sheet.lines.items ≡ []
 
--- a look: what the desk has goes on by what is shown; and behind a pause no line waits, unless the
+-- a look: what the desk has goes on by what is shown; and after a pause no line waits, unless the
 -- draft has refused some
 pub record Notes (old : Desk) (P : Plan) (fresh : List Entry) (pause : Bool)
     (new : Desk) : Type 0 where

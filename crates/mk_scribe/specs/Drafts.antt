@@ -25,7 +25,7 @@ draft_of written faults shortages (Some sink) = record {
   shortages = shortages sink;
 }
 
--- the same draft later: more may stand behind what was written, and no count has fallen
+-- the same draft later: more may stand after what was written, and no count has fallen
 pub record IsLater (old new : Draft) : Type 0 where
   pub same : new.is_there ≡ old.is_there
   pub more : List ℕ
@@ -33,6 +33,6 @@ pub record IsLater (old new : Draft) : Type 0 where
   pub faults : old.faults ≤ new.faults
   pub shortages : old.shortages ≤ new.shortages
 
--- the sink has counted a fault or a want of memory since
+-- the sink has counted a fault since, or that memory was out
 abbrev pub HasRefused : Draft → Draft → Type 0
 HasRefused old new = HasRisen old.faults new.faults ⊎ HasRisen old.shortages new.shortages

@@ -29,8 +29,8 @@ module _ {S : Type 0} (written : S → Option (List ℕ)) (faults shortages : S 
       → Saw (looks_of written faults shortages) P pause batches old new
       → IsLater (desk_of written faults shortages old).draft (desk_of written faults shortages new).draft
 
-  -- behind a look at a pause in which it refused nothing, it is all of the record of what was shown
-  -- by then, but for the `end` line
+  -- after a look at a pause in which it refused nothing, it is all of the record of what was shown by
+  -- then, without the `end` line, where the record wasn't given up
   abbrev pub PausesLeaveNothing : Type 0
   PausesLeaveNothing = (P : Plan) (J fresh : List Entry) (old new : Scribe S)
       → Has (desk_of written faults shortages old) P J

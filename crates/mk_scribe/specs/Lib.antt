@@ -2,5 +2,6 @@
 pub mod Desks
 pub mod Drafts
 pub mod Laws
+pub mod Leaving
 pub mod Openings
 pub mod inner

@@ -1,2 +1,2 @@
--- What proofs and private contracts alone need.
+-- What only proofs and private contracts need.
 pub mod Steps

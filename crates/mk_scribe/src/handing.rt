@@ -36,18 +36,21 @@ fn put_first<S: Sink>(draft: &mut S, text: &[u8]) -> usize
     done
 }
 
-// Puts the `end` line, which needs no memory.
-pub fn put_end<S: Sink>(draft: &mut S, count: usize)
+// Puts the `end` line, which needs no memory, and says whether all of it was taken.
+pub fn put_end<S: Sink>(draft: &mut S, count: usize) -> bool
     ensures { Ends (draft_of S.written S.faults S.shortages (Some draft.old)) count
-        (draft_of S.written S.faults S.shortages (Some draft.new)) }
+        (draft_of S.written S.faults S.shortages (Some draft.new)) result }
 {
     let mut buffer = Buffer::new();
     let digits = buffer.format(count as u64);
     let PutAll::Done = put_all(draft, b"end ") else {
-        return;
+        return false;
     };
     let PutAll::Done = put_all(draft, digits.as_bytes()) else {
-        return;
+        return false;
     };
-    put_all(draft, b"\n");
+    let PutAll::Done = put_all(draft, b"\n") else {
+        return false;
+    };
+    true
 }

@@ -7,4 +7,4 @@ mod scribe;
 mod sheet;
 
 pub use laws::drafts_are_records;
-pub use scribe::Scribe;
+pub use scribe::{Left, Scribe};

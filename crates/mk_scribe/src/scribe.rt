@@ -1,10 +1,15 @@
 //! The scribe of a run: an onlooker that writes the run's record.
-ghost use Rattle.std.specs.Prelude.{◌≡◌, Some, true};
+ghost use Rattle.std.specs.Prelude.{◌≡◌, ◌↔◌, ◌⊎◌, List, Some, true, false, IfSome};
 ghost use Rattle.std.specs.List.{list_all};
 ghost use Rattle.mk_onlooker.specs.Showings.{AreInRange};
+ghost use Rattle.mk_plan.specs.declared.Plan.{Plan};
+ghost use Rattle.mk_plan.specs.declared.Entry.{Entry};
+ghost use Rattle.mk_record_read.specs.Texts.{record_text};
 ghost use Rattle.mk_record_write.specs.Writable.{is_writable};
-ghost use Rattle.mk_scribe.specs.Desks.{Closes, IsNew, Notes, desk_of, is_begun, looks_of};
-ghost use Rattle.mk_scribe.specs.Drafts.{draft_of};
+ghost use Rattle.mk_scribe.specs.Desks.{Closes, Has, IsNew, Notes, desk_of, looks_of};
+ghost use Rattle.mk_scribe.specs.Drafts.{HasRefused, draft_of};
+ghost use Rattle.mk_scribe.specs.Leaving.{IfEmpty, IfPart, IfWhole, draft_left};
+ghost use Rattle.mk_scribe.specs.inner.Steps.{IsAll};
 
 use crate::handing::{hand_over, put_end};
 use crate::sheet::{Sheet, Writing};
@@ -27,6 +32,16 @@ pub struct Scribe<S> {
     sheet: Sheet,
 }
 
+/// What a scribe leaves: no draft; one in which nothing was begun; one with a beginning of the record; or one that is
+/// the whole record.
+#[derive(Drop)]
+pub enum Left<S> {
+    Nothing,
+    Empty(S),
+    Part(S),
+    Whole(S),
+}
+
 impl<S: Sink> Scribe<S> {
     /// A scribe who has written nothing.
     pub fn new(alloc: Global, draft: Option<S>) -> Scribe<S>
@@ -40,27 +55,38 @@ impl<S: Sink> Scribe<S> {
         }
     }
 
-    /// Whether lines of a record were made. Without a draft none are.
-    pub fn is_begun(&self) -> bool
-        ensures { result ≡ is_begun self.now.sheet.writing }
-    {
-        match self.sheet.writing {
-            Writing::Unbegun => false,
-            Writing::Begun | Writing::Lost => true,
-        }
-    }
-
-    /// Ends the record: all lines that are left and the `end` line are put into the draft, and it is given back.
-    pub fn close(self) -> Option<S>
-        ensures { Closes (desk_of S.written S.faults S.shortages self)
-            (draft_of S.written S.faults S.shortages result) }
+    /// Ends the record: all lines that are left and the `end` line are put into the draft, and it is given back. Where
+    /// no line was made it is as it was. It is a part where it has refused some, or where the record was given up.
+    pub fn close(self) -> Left<S>
+        ensures closes { Closes (desk_of S.written S.faults S.shortages self)
+            (draft_of S.written S.faults S.shortages (draft_left result)) }
+        ensures nothing { (result ≡ Left.Nothing)
+            ↔ ((desk_of S.written S.faults S.shortages self).draft.is_there ≡ false) }
+        ensures empty { IfEmpty result
+            (λ draft. (self.sheet.writing ≡ Writing.Unbegun) × (self.draft ≡ Some draft)) }
+        ensures part { IfPart result
+            (λ draft. HasRefused (desk_of S.written S.faults S.shortages self).draft
+            (draft_of S.written S.faults S.shortages (Some draft))
+            ⊎ (self.sheet.writing ≡ Writing.Lost)) }
+        ensures whole { IfWhole result (λ draft. (P : Plan) (J : List Entry)
+            → Has (desk_of S.written S.faults S.shortages self) P J
+            → IfSome (S.written draft) (λ bytes. bytes ≡ record_text P J)) }
     {
         let Scribe { draft, mut sheet } = self;
         let Some(mut sink) = draft else {
-            return None;
+            return Left::Nothing;
         };
-        end(&mut sink, &mut sheet);
-        Some(sink)
+        match sheet.writing {
+            Writing::Unbegun => Left::Empty(sink),
+            Writing::Lost => Left::Part(sink),
+            Writing::Begun => {
+                if end(&mut sink, &mut sheet) {
+                    Left::Whole(sink)
+                } else {
+                    Left::Part(sink)
+                }
+            }
+        }
     }
 }
 
@@ -91,19 +117,20 @@ fn note<S: Sink>(draft: &mut S, sheet: &mut Sheet, plan: &Plan, fresh: &[Entry],
     }
 }
 
-// Puts what is left, and the `end` line behind it.
-fn end<S: Sink>(draft: &mut S, sheet: &mut Sheet)
-    ensures { Closes
+// Puts what is left of a record that was begun, and the `end` line after it. It says whether all of it was taken.
+fn end<S: Sink>(draft: &mut S, sheet: &mut Sheet) -> bool
+    requires { sheet.old.writing ≡ Writing.Begun }
+    ensures closes { Closes
+        (record { draft = draft_of S.written S.faults S.shortages (Some draft.old); sheet = sheet.old })
+        (draft_of S.written S.faults S.shortages (Some draft.new)) }
+    ensures all { IsAll result
         (record { draft = draft_of S.written S.faults S.shortages (Some draft.old); sheet = sheet.old })
         (draft_of S.written S.faults S.shortages (Some draft.new)) }
 {
-    match sheet.writing {
-        Writing::Begun => {
-            hand_over(draft, &mut sheet.lines);
-            if sheet.lines.as_slice().is_empty() {
-                put_end(draft, sheet.count);
-            }
-        }
-        Writing::Unbegun | Writing::Lost => {}
+    hand_over(draft, &mut sheet.lines);
+    if sheet.lines.as_slice().is_empty() {
+        put_end(draft, sheet.count)
+    } else {
+        false
     }
 }

@@ -63,7 +63,7 @@ impl Sheet {
         }
     }
 
-    // Makes the lines of entries behind those of a plan.
+    // Makes the lines of entries after those of a plan.
     fn go_on(&mut self, fresh: &[Entry])
         requires { list_all is_writable fresh.now ≡ true }
         ensures { GoesOn self.old fresh.now self.new }

@@ -9,7 +9,7 @@ use mk_message::{ReadFault, read};
 use mk_onlooker::Onlooker;
 use mk_plan::{Entry, Item, Plan};
 use mk_plan_samples::{plan_of, two_simulators};
-use mk_scribe::Scribe;
+use mk_scribe::{Left, Scribe};
 use std::alloc::Global;
 use std::test::Fail;
 
@@ -30,9 +30,19 @@ ask [0,0,0,20]
 end 5
 ";
 
-// Which calls of a sink fail, by their numbers from 0; and how many bytes of the record its draft lacks at the end.
+// What is left of a draft.
+#[derive(Clone, Copy, Debug, PartialEq, Eq)]
+enum Kind {
+    Empty,
+    Part,
+    Whole,
+}
+
+// Which calls of a sink fail, by their numbers from 0; what is left of its draft; and how many bytes of the record the
+// draft lacks at the end.
 struct Row {
     fails: &'static [u64],
+    kind: Kind,
     lacks: usize,
 }
 
@@ -40,37 +50,45 @@ struct Row {
 const ROWS: [Row; 8] = [
     Row {
         fails: &[],
+        kind: Kind::Whole,
         lacks: 0,
     },
     // what was refused at a pause is put at the next one, or at the end
     Row {
         fails: &[0],
+        kind: Kind::Whole,
         lacks: 0,
     },
     Row {
         fails: &[1],
+        kind: Kind::Whole,
         lacks: 0,
     },
     Row {
         fails: &[0, 1],
+        kind: Kind::Whole,
         lacks: 0,
     },
     // what is refused at the end is missing there
     Row {
         fails: &[2],
+        kind: Kind::Part,
         lacks: 6,
     },
     Row {
         fails: &[3],
+        kind: Kind::Part,
         lacks: 2,
     },
     Row {
         fails: &[4],
+        kind: Kind::Part,
         lacks: 1,
     },
     // each call fails
     Row {
         fails: &[0, 1, 2],
+        kind: Kind::Part,
         lacks: 256,
     },
 ];
@@ -120,7 +138,7 @@ fn sink(alloc: Global, fails: &[u64]) -> Result<MemSink, Mem> {
 }
 
 // Shows the entries of a run to a scribe with this draft, and has it close.
-fn close(alloc: Global, plan: &Plan, entries: &[Entry], draft: Option<MemSink>) -> Option<MemSink>
+fn close(alloc: Global, plan: &Plan, entries: &[Entry], draft: Option<MemSink>) -> Left<MemSink>
     requires writable { list_all is_writable entries.now ≡ true }
     requires length { length entries.now ≡ 5 }
 {
@@ -131,14 +149,19 @@ fn close(alloc: Global, plan: &Plan, entries: &[Entry], draft: Option<MemSink>) 
     scribe.close()
 }
 
-// Whether there is a draft, and it is the record, but for so many bytes at its end.
-fn does_lack(draft: &Option<MemSink>, lacks: usize) -> bool {
-    match draft {
-        Some(sink) => {
-            let bytes = sink.bytes();
-            RECORD.starts_with(bytes) && RECORD.len().saturating_sub(bytes.len()) == lacks
-        }
-        None => false,
+// Whether a sink has taken the record, except so many bytes at its end.
+fn does_lack(sink: &MemSink, lacks: usize) -> bool {
+    let bytes = sink.bytes();
+    RECORD.starts_with(bytes) && RECORD.len().saturating_sub(bytes.len()) == lacks
+}
+
+// Whether a draft of this kind is left, and it lacks so many bytes of the record.
+fn is_left(left: &Left<MemSink>, kind: Kind, lacks: usize) -> bool {
+    match left {
+        Left::Nothing => false,
+        Left::Empty(sink) => kind == Kind::Empty && does_lack(sink, lacks),
+        Left::Part(sink) => kind == Kind::Part && does_lack(sink, lacks),
+        Left::Whole(sink) => kind == Kind::Whole && does_lack(sink, lacks),
     }
 }
 
@@ -149,10 +172,20 @@ fn a_draft_is_the_record_but_for_what_is_refused(rt: HostRuntime) -> Result<(), 
     let entries = entries(alloc)?;
     for row in ROWS.iter() {
         let draft = sink(alloc, row.fails)?;
-        let draft = close(alloc, &plan, entries.as_slice(), Some(draft));
-        assert!(rt; does_lack(&draft, row.lacks));
+        let left = close(alloc, &plan, entries.as_slice(), Some(draft));
+        assert!(rt; is_left(&left, row.kind, row.lacks));
     }
     // There may be no draft.
-    assert!(rt; close(alloc, &plan, entries.as_slice(), None).is_none());
+    assert!(rt; matches!(close(alloc, &plan, entries.as_slice(), None), Left::Nothing));
+    Ok(())
+}
+
+#[test]
+fn a_draft_of_nothing_is_left_empty(rt: HostRuntime) -> Result<(), Fail> {
+    let alloc = rt.alloc();
+    let scribe = Scribe::new(alloc, Some(sink(alloc, &[0])?));
+    assert!(rt; is_left(&scribe.close(), Kind::Empty, RECORD.len()));
+    let scribe: Scribe<MemSink> = Scribe::new(alloc, None);
+    assert!(rt; matches!(scribe.close(), Left::Nothing));
     Ok(())
 }

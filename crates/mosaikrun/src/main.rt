@@ -11,11 +11,13 @@ ghost use Rattle.mk_watch_read.specs.inner.Rules as rules;
 
 use mk_base::{Mem, Text};
 use mk_local::{EntityStep, Kind, Registry, TURNS, Turn, turn_of};
+use mk_progress::ProgressLine;
 use mk_real::MioFleet;
-use mk_real_files::{RealFolder, RealSink, words};
+use mk_real_files::{RealFolder, RealSink, RealStopwatch, words};
 use mk_watch_read::{FOLDS, Fold, Rule, Rules, name_of, value_of};
 use mosaikrun_program::program;
 use std::alloc::Global;
+use std::io::IsTerminal;
 use std::process::ExitCode;
 use std::sync::Wait;
 
@@ -87,5 +89,20 @@ fn call<W: Wait>(
         rules,
         &mut out,
         &mut err,
+        progress_on(rt, alloc),
     ))
+}
+
+// The line of progress: on standard error, where that is a terminal.
+fn progress_on(
+    rt: &HostRuntime,
+    alloc: Global,
+) -> ProgressLine<RealSink, RealStopwatch<'_, HostRuntime>> {
+    let is_on = rt.stderr().is_terminal();
+    ProgressLine::new(
+        alloc,
+        RealSink::new(rt, true),
+        RealStopwatch::new(rt),
+        is_on,
+    )
 }

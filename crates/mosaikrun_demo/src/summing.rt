@@ -7,7 +7,7 @@ ghost use Rattle.mosaikrun_run.specs.Outcomes.{HoldsOver};
 ghost use Rattle.mosaikrun_demo.specs.Outcomes.{IsDemoOutcome};
 
 use mk_local::Registry;
-use mk_onlooker::Nobody;
+use mk_onlooker::Onlooker;
 use mk_outside::Fleet;
 use mk_scenario_demo::demo_scenario;
 use mosaikrun_endings::Ending;
@@ -16,13 +16,15 @@ use std::alloc::Global;
 use std::sync::Wait;
 
 /// Runs the demo scenario of this size, 1 to 100, its simulators being of these kinds, and answers the summary of what
-/// each was sent, or why there is none. All its simulators are within the program, so the fleet is as before.
-pub fn summed<F: Fleet, R: Wait>(
+/// each was sent, or why there is none. All its simulators are within the program, so the fleet is as before. The onlooker
+/// is shown the run's journal.
+pub fn summed<F: Fleet, R: Wait, O: Onlooker>(
     rt: &R,
     alloc: Global,
     kinds: &Registry,
     size: u32,
     fleet: &mut F,
+    onlooker: &mut O,
 ) -> Result<Vec<u8>, Ending>
     requires low { 1 ≤ size }
     requires high { size ≤ largest_demo }
@@ -36,7 +38,6 @@ pub fn summed<F: Fleet, R: Wait>(
         fleet.old fleet.new (λ O. IsDemoOutcome O size (Err e))) }
 {
     let scenario = demo_scenario(alloc, size)?;
-    let mut nobody = Nobody;
     played(
         rt,
         alloc,
@@ -45,7 +46,7 @@ pub fn summed<F: Fleet, R: Wait>(
         fleet,
         Form::Summary,
         false,
-        &mut nobody,
+        onlooker,
     )
     .text
 }

@@ -10,6 +10,7 @@ mod Making
 mod NeverUsage
 mod Pacing
 mod Playing
+mod Recorded
 mod Recording
 mod Resuming
 mod RightCalls

@@ -1,3 +1,4 @@
 -- What proofs alone need.
 pub mod Around
+pub mod Drafting
 pub mod Making

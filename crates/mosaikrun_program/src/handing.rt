@@ -1,21 +1,23 @@
 //! What becomes of a text and of a record: they are printed and saved, or it is said why not.
-ghost use Rattle.std.specs.Prelude.{◌≡◌, ◌≤◌, ◌⊎◌, IsSome, Ok, Err, IfOk, IfErr, option_map};
+ghost use Rattle.std.specs.Prelude.{◌≡◌, ◌≤◌, ◌⊎◌, IsSome, Ok, Err, IfOk, IfErr, IfSome, option_map};
 ghost use Rattle.mk_outside.specs.Counts.{HasRisen};
+ghost use Rattle.mk_scribe.specs.Desks.{desk_of};
+ghost use Rattle.mk_scribe.specs.Leaving.{IfWhole};
+ghost use Rattle.mosaikrun_program.specs.inner.Drafting.{HasRecord};
 ghost use Rattle.mosaikrun_program.specs.Answers.{PrintAnswer};
 ghost use Rattle.mosaikrun_program.specs.Around.{IsSaidAs, folder_seen, output_seen};
 ghost use Rattle.mosaikrun_program.specs.Running.{IsFolderAfter, IsUnsaved, RunAnswer};
 
-use crate::drafting::{end, save};
+use crate::drafting::{put_away, save};
 use mk_base::Text;
 use mk_drafts::Drafts;
 use mk_outside::{FileSave, PutAll, Sink, put_all};
-use mk_scribe::Scribe;
+use mk_scribe::{Left, Scribe};
 use mosaikrun_endings::Ending;
 use mosaikrun_run::Told;
 
 // Saves the record of what was done over a fleet, if there is one, under the name, if one is given, and prints the
-// text; or says why there is none, or why it isn't printed. The draft is ended first; once the record is saved, or where
-// nothing is in the draft, it is taken away.
+// text; or says why there is none, or why it isn't printed. The scribe has written the record of what was done.
 pub fn hand_out<D: Drafts, K: Sink>(
     told: Told,
     name: &Option<Text>,
@@ -23,6 +25,8 @@ pub fn hand_out<D: Drafts, K: Sink>(
     scribe: Scribe<D::Draft>,
     out: &mut K,
 ) -> Result<(), Ending>
+    requires has { IfSome (option_map (λ r. r.items) told.record_text) (λ bytes. HasRecord
+        (desk_of D.Draft.written D.Draft.faults D.Draft.shortages scribe) bytes) }
     ensures text { IfOk told.text
         (λ text. RunAnswer (folder_seen D.files D.faults folder.old folder.new)
         (output_seen K.written K.faults K.shortages out.old out.new) name.now (Ok text.items)
@@ -35,10 +39,10 @@ pub fn hand_out<D: Drafts, K: Sink>(
     ensures out_count { K.faults out.old ≤ K.faults out.new }
 {
     let Told { text, record_text } = told;
-    let draft = end(folder, scribe);
+    let left = scribe.close();
     match text {
-        Ok(text) => report(text.as_slice(), &record_text, name, folder, draft, out),
-        Err(ending) => Err(explained(ending, &record_text, name, folder, draft)),
+        Ok(text) => report(text.as_slice(), &record_text, name, folder, left, out),
+        Err(ending) => Err(explained(ending, &record_text, name, folder, left)),
     }
 }
 
@@ -48,38 +52,42 @@ fn report<D: Drafts, K: Sink>(
     kept: &Option<Vec<u8>>,
     name: &Option<Text>,
     folder: &mut D,
-    draft: Option<D::Draft>,
+    left: Left<D::Draft>,
     out: &mut K,
 ) -> Result<(), Ending>
+    requires whole { IfSome (option_map (λ b. b.items) kept.now) (λ bytes. IfWhole left
+        (λ draft. IfSome (D.Draft.written draft) (λ taken. taken ≡ bytes))) }
     ensures answered { RunAnswer (folder_seen D.files D.faults folder.old folder.new)
         (output_seen K.written K.faults K.shortages out.old out.new) name.now (Ok text.now)
         (option_map (λ r. r.items) kept.now) result }
     ensures folder_count { D.faults folder.old ≤ D.faults folder.new }
     ensures out_count { K.faults out.old ≤ K.faults out.new }
 {
-    match keep(folder, name, kept, draft) {
+    match keep(folder, name, kept, left) {
         FileSave::Kept => print(out, text),
         FileSave::Failed => Err(Ending::Folder),
         FileSave::Mem => Err(Ending::Mem),
     }
 }
 
-// Saves the record where there is no text, and says why there is none, or that memory was wanting for saving it. That
+// Saves the record where there is no text, and says why there is none, or that memory was out for saving it. That
 // the folder failed isn't said.
 fn explained<D: Drafts>(
     ending: Ending,
     made: &Option<Vec<u8>>,
     name: &Option<Text>,
     folder: &mut D,
-    draft: Option<D::Draft>,
+    left: Left<D::Draft>,
 ) -> Ending
+    requires whole { IfSome (option_map (λ b. b.items) made.now) (λ bytes. IfWhole left
+        (λ draft. IfSome (D.Draft.written draft) (λ taken. taken ≡ bytes))) }
     ensures said { IsSaidAs ending result }
     ensures saved { IsFolderAfter name.now (option_map (λ r. r.items) made.now)
         (D.files folder.old) (D.files folder.new)
         ⊎ IsUnsaved (folder_seen D.files D.faults folder.old folder.new) name.now result }
     ensures count { D.faults folder.old ≤ D.faults folder.new }
 {
-    match keep(folder, name, made, draft) {
+    match keep(folder, name, made, left) {
         FileSave::Kept | FileSave::Failed => ending,
         FileSave::Mem => {
             drop(ending);
@@ -93,8 +101,10 @@ fn keep<D: Drafts>(
     folder: &mut D,
     name: &Option<Text>,
     bytes: &Option<Vec<u8>>,
-    draft: Option<D::Draft>,
+    left: Left<D::Draft>,
 ) -> FileSave
+    requires whole { IfSome (option_map (λ b. b.items) bytes.now) (λ bytes. IfWhole left
+        (λ draft. IfSome (D.Draft.written draft) (λ taken. taken ≡ bytes))) }
     ensures kept { result ≡ FileSave.Kept
         → IsFolderAfter name.now (option_map (λ b. b.items) bytes.now) (D.files folder.old)
         (D.files folder.new) }
@@ -105,8 +115,11 @@ fn keep<D: Drafts>(
     ensures count { D.faults folder.old ≤ D.faults folder.new }
 {
     match (name, bytes) {
-        (Some(name), Some(bytes)) => save(folder, name.as_str(), bytes.as_slice(), draft),
-        _ => FileSave::Kept,
+        (Some(name), Some(bytes)) => save(folder, name.as_str(), bytes.as_slice(), left),
+        _ => {
+            put_away(folder, left);
+            FileSave::Kept
+        }
     }
 }
 

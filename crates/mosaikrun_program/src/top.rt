@@ -28,12 +28,13 @@ ghost use Rattle.mosaikrun_program.specs.Program.{EndedAs, EndsWith, IsStatusOr,
 ghost use Rattle.mk_base.specs.Limits.{largest_demo, most_milliseconds};
 
 use crate::commands::{file_bytes, made, record_bytes, target_of};
-use crate::drafting::scribe_for;
+use crate::drafting::{over, scribe_for};
 use crate::handing::{hand_out, print};
 use mk_base::Text;
 use mk_drafts::Drafts;
 use mk_local::Registry;
 use mk_outside::{FileSave, Fleet, Folder, Paced, PutAll, Sink, put_all};
+use mk_progress::{Both, Progress};
 use mk_run_crew::handshakes_complete;
 use mk_watch_read::Rules;
 use mosaikrun_demo::summed;
@@ -53,6 +54,10 @@ use std::sync::Wait;
 /// The demo is a run too, of a scenario that is no file. A scenario's simulators within the program are of these kinds,
 /// and tables are made by these rules.
 ///
+/// While a run goes, its record is written into a draft beside the file of that name. A draft that is the whole record
+/// takes the file's name once the run is over. `progress` is shown what each run is asked and answers, and is told that
+/// the run is over before anything is printed.
+///
 /// Answers the status: 0 where all is done; 2 where the words ask for nothing; 3 where a file isn't there, is too long
 /// or is refused; 4 where the handshake is; 5 where a run or a replay ended by a message, a link, a record that differs
 /// or a Step that was too late; 6 where the folder, the fleet or `out` failed; 7 at the limit of entries or of an
@@ -63,7 +68,7 @@ use std::sync::Wait;
 ///
 /// At a status other than 0 `err` gets a line that says why, or a beginning of it where it failed or found no memory,
 /// and `out` gets nothing, or a beginning of the text where it failed or found no memory.
-pub fn program<D: Drafts, F: Paced, K: Sink, E: Sink, R: Wait>(
+pub fn program<D: Drafts, F: Paced, K: Sink, E: Sink, R: Wait, P: Progress>(
     rt: &R,
     alloc: Global,
     words: &[String],
@@ -73,6 +78,7 @@ pub fn program<D: Drafts, F: Paced, K: Sink, E: Sink, R: Wait>(
     rules: &Rules,
     out: &mut K,
     err: &mut E,
+    progress: P,
 ) -> u8
     ensures headline { HoldsOver F.log F.started F.faults (rows_in kinds.now) fleet.old fleet.new
         (λ O. IsRightCall (around O (map string_bytes words.now) (rules_seen rules.now)
@@ -126,7 +132,7 @@ pub fn program<D: Drafts, F: Paced, K: Sink, E: Sink, R: Wait>(
 {
     // a law, which does nothing: when a run comes to its end
     handshakes_complete();
-    match answer(rt, alloc, words, folder, fleet, kinds, rules, out) {
+    match answer(rt, alloc, words, folder, fleet, kinds, rules, out, progress) {
         Ok(()) => 0,
         Err(ending) => {
             let status = tell(alloc, &ending, err);
@@ -137,7 +143,7 @@ pub fn program<D: Drafts, F: Paced, K: Sink, E: Sink, R: Wait>(
 }
 
 // Reads the words, and does what they ask.
-fn answer<D: Drafts, F: Paced, K: Sink, R: Wait>(
+fn answer<D: Drafts, F: Paced, K: Sink, R: Wait, P: Progress>(
     rt: &R,
     alloc: Global,
     words: &[String],
@@ -146,6 +152,7 @@ fn answer<D: Drafts, F: Paced, K: Sink, R: Wait>(
     kinds: &Registry,
     rules: &Rules,
     out: &mut K,
+    progress: P,
 ) -> Result<(), Ending>
     ensures ended { HoldsOver F.log F.started F.faults (rows_in kinds.now) fleet.old fleet.new
         (λ O. EndedAs (around O (map string_bytes words.now) (rules_seen rules.now)
@@ -173,6 +180,7 @@ fn answer<D: Drafts, F: Paced, K: Sink, R: Wait>(
                 fleet,
                 kinds,
                 out,
+                progress,
             )
         }
         Request::Resume {
@@ -190,6 +198,7 @@ fn answer<D: Drafts, F: Paced, K: Sink, R: Wait>(
                 fleet,
                 kinds,
                 out,
+                progress,
             )
         }
         Request::Paced {
@@ -209,9 +218,10 @@ fn answer<D: Drafts, F: Paced, K: Sink, R: Wait>(
                 fleet,
                 kinds,
                 out,
+                progress,
             )
         }
-        Request::Demo { size } => sum_up(rt, alloc, size, fleet, kinds, out),
+        Request::Demo { size } => { sum_up(rt, alloc, size, fleet, kinds, out, progress) }
         Request::Files(command) => make(alloc, &command, folder, kinds, rules, out),
     }
 }
@@ -269,7 +279,7 @@ fn asked(alloc: Global, words: &[String]) -> Result<Request, Ending>
 
 // Reads a scenario's file and runs it over the fleet; the record is saved under the name, if there is one, and the
 // report is printed.
-fn play<D: Drafts, F: Fleet, K: Sink, R: Wait>(
+fn play<D: Drafts, F: Fleet, K: Sink, R: Wait, P: Progress>(
     rt: &R,
     alloc: Global,
     scenario: &str,
@@ -278,6 +288,7 @@ fn play<D: Drafts, F: Fleet, K: Sink, R: Wait>(
     fleet: &mut F,
     kinds: &Registry,
     out: &mut K,
+    progress: P,
 ) -> Result<(), Ending>
     ensures played { (words : List (List ℕ)) → (rules : RulesSeen)
         → IsAsked words (requests.Run scenario.now name.now)
@@ -292,7 +303,11 @@ fn play<D: Drafts, F: Fleet, K: Sink, R: Wait>(
     ensures out_count { K.faults out.old ≤ K.faults out.new }
 {
     let bytes = file_bytes(alloc, folder, scenario)?;
-    let mut scribe = scribe_for(alloc, folder, name)?;
+    let scribe = scribe_for(alloc, folder, name)?;
+    let mut both = Both {
+        first: scribe,
+        second: progress,
+    };
     let told = ran(
         rt,
         alloc,
@@ -300,14 +315,14 @@ fn play<D: Drafts, F: Fleet, K: Sink, R: Wait>(
         bytes.as_slice(),
         fleet,
         name.is_some(),
-        &mut scribe,
+        &mut both,
     );
-    hand_out(told, name, folder, scribe, out)
+    hand_out(told, name, folder, over(both), out)
 }
 
 // Reads a scenario's file and then, where it can be run, that of a record, which is mended, and goes on with the run over
 // the fleet; the new record is saved under the name, if there is one, and the report is printed.
-fn carry_on<D: Drafts, F: Fleet, K: Sink, R: Wait>(
+fn carry_on<D: Drafts, F: Fleet, K: Sink, R: Wait, P: Progress>(
     rt: &R,
     alloc: Global,
     scenario: &str,
@@ -317,6 +332,7 @@ fn carry_on<D: Drafts, F: Fleet, K: Sink, R: Wait>(
     fleet: &mut F,
     kinds: &Registry,
     out: &mut K,
+    progress: P,
 ) -> Result<(), Ending>
     ensures carried { (words : List (List ℕ)) → (rules : RulesSeen)
         → IsAsked words (requests.Resume scenario.now recorded.now name.now)
@@ -333,7 +349,11 @@ fn carry_on<D: Drafts, F: Fleet, K: Sink, R: Wait>(
     let bytes = file_bytes(alloc, folder, scenario)?;
     let study = study_of(alloc, kinds, bytes.as_slice())?;
     let old = record_bytes(alloc, folder, recorded)?;
-    let mut scribe = scribe_for(alloc, folder, name)?;
+    let scribe = scribe_for(alloc, folder, name)?;
+    let mut both = Both {
+        first: scribe,
+        second: progress,
+    };
     let told = resumed(
         rt,
         alloc,
@@ -342,14 +362,14 @@ fn carry_on<D: Drafts, F: Fleet, K: Sink, R: Wait>(
         old.as_slice(),
         fleet,
         name.is_some(),
-        &mut scribe,
+        &mut both,
     );
-    hand_out(told, name, folder, scribe, out)
+    hand_out(told, name, folder, over(both), out)
 }
 
 // Reads a scenario's file and runs it over the fleet by its clock, with so many milliseconds to a unit of time; the
 // record is saved under the name, if there is one, and the report is printed.
-fn pace<D: Drafts, F: Paced, K: Sink, R: Wait>(
+fn pace<D: Drafts, F: Paced, K: Sink, R: Wait, P: Progress>(
     rt: &R,
     alloc: Global,
     scenario: &str,
@@ -360,6 +380,7 @@ fn pace<D: Drafts, F: Paced, K: Sink, R: Wait>(
     fleet: &mut F,
     kinds: &Registry,
     out: &mut K,
+    progress: P,
 ) -> Result<(), Ending>
     requires least { 1 ≤ factor }
     requires most { factor ≤ most_milliseconds }
@@ -378,7 +399,11 @@ fn pace<D: Drafts, F: Paced, K: Sink, R: Wait>(
     ensures out_count { K.faults out.old ≤ K.faults out.new }
 {
     let bytes = file_bytes(alloc, folder, scenario)?;
-    let mut scribe = scribe_for(alloc, folder, name)?;
+    let scribe = scribe_for(alloc, folder, name)?;
+    let mut both = Both {
+        first: scribe,
+        second: progress,
+    };
     let told = paced_ran(
         rt,
         alloc,
@@ -388,9 +413,9 @@ fn pace<D: Drafts, F: Paced, K: Sink, R: Wait>(
         factor as u64,
         wide(strict),
         name.is_some(),
-        &mut scribe,
+        &mut both,
     );
-    hand_out(told, name, folder, scribe, out)
+    hand_out(told, name, folder, over(both), out)
 }
 
 // A number of milliseconds as wide as those of a clock.
@@ -404,13 +429,14 @@ fn wide(number: Option<u32>) -> Option<u64>
 }
 
 // Runs the demo scenario of this size over the fleet, and prints its summary.
-fn sum_up<F: Fleet, K: Sink, R: Wait>(
+fn sum_up<F: Fleet, K: Sink, R: Wait, P: Progress>(
     rt: &R,
     alloc: Global,
     size: u32,
     fleet: &mut F,
     kinds: &Registry,
     out: &mut K,
+    progress: P,
 ) -> Result<(), Ending>
     requires low { 1 ≤ size }
     requires high { size ≤ largest_demo }
@@ -425,8 +451,10 @@ fn sum_up<F: Fleet, K: Sink, R: Wait>(
     ensures fleet_count { F.faults fleet.old ≤ F.faults fleet.new }
     ensures out_count { K.faults out.old ≤ K.faults out.new }
 {
-    let text = summed(rt, alloc, kinds, size, fleet)?;
-    print(out, text.as_slice())
+    let mut progress = progress;
+    let summary = summed(rt, alloc, kinds, size, fleet, &mut progress);
+    progress.end();
+    print(out, summary?.as_slice())
 }
 
 // Says why there is no text, and answers the status. Where there is no memory for the line it says that.

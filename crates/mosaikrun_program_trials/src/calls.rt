@@ -4,6 +4,7 @@ use mk_base::{List, Mem};
 use mk_drafts::Drafts;
 use mk_fakes::{MemFolder, MemSink, PlainFleet};
 use mk_local::Registry;
+use mk_onlooker::Nobody;
 use mk_outside::{Paced, Sink};
 use mk_watch_read::Rules;
 use mosaikrun_program::program;
@@ -70,6 +71,7 @@ pub fn status_over<R: Wait, D: Drafts, F: Paced, K: Sink, E: Sink>(
         &Rules::new(alloc),
         out,
         err,
+        Nobody,
     ))
 }
 

@@ -1,13 +1,14 @@
 -- What each step at a desk does.
-use Rattle.std.specs.Prelude.{◌≡◌, ◌≢◌, ℕ, ◌+◌, ◌≤◌, ◌⊎◌, List, [], ◌++◌, length, take, drop, codes, Option}
+use Rattle.std.specs.Prelude.{◌≡◌, ◌≢◌, ℕ, ◌+◌, ◌≤◌, ◌⊎◌, Bool, true, false, List, [], ◌++◌, length, take, drop, codes, Option, IfSome}
 use Rattle.std.specs.Fmt.{decimal}
 use Rattle.mk_outside.specs.Sinks.{TookBeginning, appended}
 use Rattle.mk_plan.specs.declared.Plan.{Plan}
 use Rattle.mk_plan.specs.declared.Entry.{Entry}
+use Rattle.mk_record_read.specs.Texts.{record_text}
 use Rattle.mk_scribe.specs.declared.sheet.Sheet.{Sheet}
 use Rattle.mk_scribe.specs.declared.sheet.Writing.TheVariants.{Unbegun, Lost}
 use Rattle.mk_scribe.specs.Drafts.{Draft, HasRefused, IsLater}
-use Rattle.mk_scribe.specs.Desks.{MakesOn}
+use Rattle.mk_scribe.specs.Desks.{Desk, Has, MakesOn}
 
 -- the record is given up
 abbrev pub IsGivenUp : Sheet → Type 0
@@ -46,8 +47,20 @@ pub record Moves (old : Draft) (lines : List ℕ) (new : Draft) (rest : List ℕ
 abbrev pub end_line : ℕ → List ℕ
 end_line count = codes "end " ++ decimal count ++ codes "\n"
 
--- it was put into the draft, or a beginning of it where the draft has refused some
-pub record Ends (old : Draft) (count : ℕ) (new : Draft) : Type 0 where
+-- all of it was put into the draft; or not, and then a beginning of it was, and the draft has
+-- refused some
+abbrev pub PutsEnd : Bool → Draft → ℕ → Draft → Type 0
+PutsEnd true old count new = new.written ≡ appended (end_line count) old.written
+PutsEnd false old count new = TookBeginning (end_line count) old.written new.written
+    × HasRefused old new
+
+-- it was put into the draft after what stood there
+pub record Ends (old : Draft) (count : ℕ) (new : Draft) (all : Bool) : Type 0 where
   pub later : IsLater old new
-  pub put : (new.written ≡ appended (end_line count) old.written)
-      ⊎ (TookBeginning (end_line count) old.written new.written × HasRefused old new)
+  pub put : PutsEnd all old count new
+
+-- a draft is the whole record of what the desk had; or not, and then it has refused some
+abbrev pub IsAll : Bool → Desk → Draft → Type 0
+IsAll true old new = (P : Plan) (J : List Entry) → Has old P J
+    → IfSome new.written (λ bytes. bytes ≡ record_text P J)
+IsAll false old new = HasRefused old.draft new

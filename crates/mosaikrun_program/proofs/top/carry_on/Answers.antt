@@ -22,6 +22,10 @@ use Rattle.mosaikrun_program.proofs.CarryingOn.{first_refused, gone_on, low, sec
 use Rattle.mosaikrun_program.proofs.Fleetless.{does_nothing}
 use Rattle.mosaikrun_program.proofs.Making.{unreadable_later}
 use Rattle.mosaikrun_program.proofs.Playing.{answered_since, either}
+use Rattle.std.specs.Prelude.{IfSome}
+use Rattle.mk_scribe.specs.Desks.{desk_of}
+use Rattle.mosaikrun_program.specs.inner.Drafting.{HasRecord}
+use Rattle.mosaikrun_program.proofs.Recorded.{onward_has}
 use Rattle.mosaikrun_program.proofs.top.carry_on.Goals as goal
 use Rattle.mk_session.proofs.Polling.{risen_after}
 
@@ -169,3 +173,13 @@ returns-in_err-scribe-clause-carried g c = λ words rules asked.
         untouched = record { unput = refl; unsaved = c.scribe_for.ensures.kept ∙ (c.record_bytes.ensures.kept ∙ c.file_bytes.ensures.kept); log = refl; faults = refl };
       }))),
     )
+
+-- the record that is made is that of the journal which the scribe has
+pub hand_out-requires : goal.hand_out-requires
+hand_out-requires g c =
+    let kept = option_map (λ r. r.items) c.resumed-told.result.record_text in
+    record {
+      has = subst (λ (s : _). IfSome kept (HasRecord (desk_of g.D.Draft.Sink.written g.D.Draft.Sink.faults g.D.Draft.Sink.shortages s))) (sym c.over.ensures)
+          (onward_has g.D.Draft.Sink.written g.D.Draft.Sink.faults g.D.Draft.Sink.shortages g.P.Onlooker.looks kept (record { first = c.in_ok-scribe.scribe; second = c.args.progress }) c.resumed-told.new.onlooker
+          c.in_ok-scribe.ensures.new c.in_ok-scribe.ensures.empty c.resumed-told.ensures.shown);
+    }

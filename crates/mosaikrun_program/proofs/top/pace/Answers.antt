@@ -1,6 +1,5 @@
 -- Answers to the goals of `top::pace` that the prover leaves.
-use Rattle.std.proofs.Common.{List, [], ℕ, inl, inr, refl, sym, ap, ◌∙◌, subst, Result, Err, option_map, Option, ◌≤◌}
-use Rattle.std.specs.Prelude.{IfSome}
+use Rattle.std.proofs.Common.{true, List, [], ℕ, inl, inr, refl, sym, ap, ◌∙◌, subst, Result, Err, option_map, Option, ◌≤◌}
 use Rattle.std.proofs.lemmas.Result.{err_from_is_err_and}
 use Rattle.mk_outside.specs.declared.fleet.LogEntry.{LogEntry}
 use Rattle.mk_outside.specs.Logs.{Adds}
@@ -17,6 +16,10 @@ use Rattle.mk_session.proofs.Polling.{risen_after}
 use Rattle.mosaikrun_program.proofs.CarryingOn.{low}
 use Rattle.mosaikrun_program.proofs.Playing.{answered_since, either, is_paced, performed}
 use Rattle.mosaikrun_paced.proofs.Telling.{rising_none}
+use Rattle.std.specs.Prelude.{IfSome}
+use Rattle.mk_scribe.specs.Desks.{desk_of}
+use Rattle.mosaikrun_program.specs.inner.Drafting.{HasRecord}
+use Rattle.mosaikrun_program.proofs.Recorded.{run_has}
 use Rattle.mosaikrun_program.proofs.top.pace.Goals as goal
 use Rattle.mk_base.specs.Limits.{most_milliseconds}
 
@@ -122,3 +125,13 @@ returns-in_err-scribe-clause-paced g c = λ words rules asked.
 
 pub returns-in_err-scribe-clause-rising : goal.returns-in_err-scribe-clause-rising
 returns-in_err-scribe-clause-rising g c = ([], adds_none (g.F.Fleet.log c.args.fleet.now), λ told. rising_none)
+
+-- the record that is made is that of the journal which the scribe has
+pub hand_out-requires : goal.hand_out-requires
+hand_out-requires g c =
+    let kept = option_map (λ r. r.items) c.paced_ran-told.result.record_text in
+    record {
+      has = subst (λ (s : _). IfSome kept (HasRecord (desk_of g.D.Draft.Sink.written g.D.Draft.Sink.faults g.D.Draft.Sink.shortages s))) (sym c.over.ensures)
+          (run_has g.D.Draft.Sink.written g.D.Draft.Sink.faults g.D.Draft.Sink.shortages g.P.Onlooker.looks kept (record { first = c.in_ok-scribe.scribe; second = c.args.progress }) c.paced_ran-told.new.onlooker
+          c.in_ok-scribe.ensures.new c.in_ok-scribe.ensures.empty true c.paced_ran-told.ensures.shown);
+    }

@@ -8,12 +8,18 @@ use Rattle.mk_local.specs.Registries.{rows_in}
 use Rattle.mosaikrun_words.specs.declared.request.Request.TheVariants.{Run}
 use Rattle.mosaikrun_endings.specs.declared.ending.Ending.{Ending}
 use Rattle.mosaikrun_run.specs.Outcomes.{IsRunOutcome, outside}
+use Rattle.mk_run_crew.specs.Wholly.{is_wholly_within}
+use Rattle.mk_scenario.specs.Scenarios.{scenario_of}
+use Rattle.mk_scribe.specs.Desks.{desk_of}
+use Rattle.std.specs.Prelude.{IfSome, not}
+use Rattle.mosaikrun_program.specs.inner.Drafting.{HasRecord}
 use Rattle.mosaikrun_program.specs.Around.{Around, folder_seen, output_seen}
 use Rattle.mosaikrun_program.specs.Running.{RunAnswer}
 use Rattle.mosaikrun_program.specs.Program.{EndedAs}
 use Rattle.mosaikrun_program.proofs.Fleetless.{does_nothing}
 use Rattle.mk_session.proofs.Polling.{risen_after}
 use Rattle.mosaikrun_program.proofs.CarryingOn.{low}
+use Rattle.mosaikrun_program.proofs.Recorded.{none_unread, read_has}
 use Rattle.mosaikrun_program.proofs.Playing.{answered_since, either, is_run, performed}
 use Rattle.mosaikrun_program.proofs.top.play.Goals as goal
 
@@ -109,3 +115,18 @@ returns-in_err-scribe-clause-played g c = λ words rules asked.
         untouched = record { unput = refl; unsaved = c.scribe_for.ensures.kept ∙ c.file_bytes.ensures.kept; log = refl; faults = refl };
       }))),
     )
+
+-- the record that is made is that of the journal which the scribe has
+pub hand_out-requires : goal.hand_out-requires
+hand_out-requires g c =
+    let kept = option_map (λ r. r.items) c.ran-told.result.record_text in
+    let Q : Result (List ℕ) Ending → Type 0 = λ text. (entries : List LogEntry) × Adds entries (g.F.Fleet.log c.args.fleet.now) (g.F.Fleet.log c.ran-told.new.fleet)
+    × IsRunOutcome (outside g.F.Fleet.started g.F.Fleet.faults (rows_in c.args.kinds.now) c.args.fleet.now c.ran-told.new.fleet entries)
+    c.is_some.result c.as_slice.result.now text kept in
+    let told = either (λ v. v.items) Q Q c.ran-told.result.text c.ran-told.ensures.text c.ran-told.ensures.none c.ran-told.ensures.text c.ran-told.ensures.none in
+    record {
+      has = subst (λ (s : _). IfSome kept (HasRecord (desk_of g.D.Draft.Sink.written g.D.Draft.Sink.faults g.D.Draft.Sink.shortages s))) (sym c.over.ensures)
+          (read_has g.D.Draft.Sink.written g.D.Draft.Sink.faults g.D.Draft.Sink.shortages g.P.Onlooker.looks kept (record { first = c.in_ok-scribe.scribe; second = c.args.progress }) c.ran-told.new.onlooker
+          c.in_ok-scribe.ensures.new c.in_ok-scribe.ensures.empty c.as_slice.result.now (λ s. not (is_wholly_within s)) (scenario_of c.as_slice.result.now) refl c.ran-told.ensures.shown
+          (λ f e. none_unread (outside g.F.Fleet.started g.F.Fleet.faults (rows_in c.args.kinds.now) c.args.fleet.now c.ran-told.new.fleet told.1.0) c.is_some.result c.as_slice.result.now told.0 kept f told.1.2 e));
+    }

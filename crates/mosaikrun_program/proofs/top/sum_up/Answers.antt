@@ -12,12 +12,12 @@ use Rattle.mosaikrun_program.proofs.Playing.{reported}
 use Rattle.mosaikrun_program.proofs.top.sum_up.Goals as goal
 
 -- there is no summary
-pub returns-in_err-text-clause-summed : goal.returns-in_err-text-clause-summed
-returns-in_err-text-clause-summed g c = λ words rules folder unsaved.
-    let came = c.in_err-text.ensures.none in
+pub returns-in_err-summary-clause-summed : goal.returns-in_err-summary-clause-summed
+returns-in_err-summary-clause-summed g c = λ words rules folder unsaved.
+    let came = c.in_err-summary.ensures.none in
     let S : Around = record {
       words = words;
-      outside = outside g.F.Fleet.started g.F.Fleet.faults (rows_in c.args.kinds.now) c.args.fleet.now c.summed.new.fleet came.0;
+      outside = outside g.F.Fleet.started g.F.Fleet.faults (rows_in c.args.kinds.now) c.args.fleet.now c.summed-summary.new.fleet came.0;
       rules = rules;
       folder = folder;
       output = output_seen g.K.Sink.written g.K.Sink.faults g.K.Sink.shortages c.args.out.now c.args.out.now;
@@ -28,7 +28,7 @@ returns-in_err-text-clause-summed g c = λ words rules folder unsaved.
       subst (λ (r : Result (Unit {0}) Ending). IsDoneOver S (Demo c.args.size) r) (sym (e.1 ∙ ap (λ x. Err x) e.2)) (record {
         read = [];
         held = tt;
-        text = Err c.in_err-text.field-0.0;
+        text = Err c.in_err-summary.field-0.0;
         kept = None;
         outcome = (came.2, refl);
         ended = (refl, inl refl, inl unsaved);
@@ -38,16 +38,16 @@ returns-in_err-text-clause-summed g c = λ words rules folder unsaved.
 -- the summary is put
 pub returns-clause-summed : goal.returns-clause-summed
 returns-clause-summed g c = λ words rules folder unsaved.
-    let came = c.in_ok-text.ensures.text in
+    let came = c.in_ok-summary.ensures.text in
     let out = output_seen g.K.Sink.written g.K.Sink.faults g.K.Sink.shortages c.args.out.now c.print.new.out in (
       came.0,
       came.1,
       record {
         read = [];
         held = tt;
-        text = Ok c.in_ok-text.text.items;
+        text = Ok c.in_ok-summary.field-0.items;
         kept = None;
         outcome = (came.2, refl);
-        ended = reported folder out None None c.in_ok-text.text.items c.print.result unsaved (subst (λ t. PrintAnswer out (Ok t) c.print.result) c.as_slice.ensures.value c.print.ensures.put);
+        ended = reported folder out None None c.in_ok-summary.field-0.items c.print.result unsaved (subst (λ t. PrintAnswer out (Ok t) c.print.result) c.as_slice.ensures.value c.print.ensures.put);
       },
     )
