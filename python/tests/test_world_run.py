@@ -454,7 +454,7 @@ world.run(until=5)
                 os.killpg(script.pid, number)
                 out, err = script.communicate(timeout=SECONDS)
                 self.assertEqual(script.returncode, status, err)
-                self.assertFalse(is_alive(child))
+                self.assertTrue(awaited(lambda: not is_alive(child)))
                 self.assertEqual(served(self.room), [], "a process is left behind")
                 goes_on = "mosaikrun: the run was ended; its record is script.record; it goes on by: mosaikrun resume"
                 self.assertIn(goes_on, err)
@@ -474,7 +474,7 @@ world.run(until=5)
                 _, err = script.communicate(timeout=SECONDS)
                 self.assertEqual(script.returncode, -number, err)
                 self.assertTrue(awaited(lambda: served(self.room) == []), served(self.room))
-                self.assertFalse(is_alive(child))
+                self.assertTrue(awaited(lambda: not is_alive(child)))
                 os.remove("stepped")
 
     def test_a_script_that_is_killed_at_once(self) -> None:
